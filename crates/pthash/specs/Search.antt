@@ -36,10 +36,14 @@ pub record SearchState : Type 0 where
 abbrev pub positions_of : SearchPlan → List ℕ → ℕ → List ℕ
 positions_of plan members pilot = map (λ b. bit_xor b (pilot_hash pilot plan.seed) % plan.size) members
 
+-- whether a number is in the list
+abbrev pub is_among : List ℕ → ℕ → Bool
+is_among xs x = list_any (λ y. y == x) xs
+
 -- no number comes twice
 abbrev pub is_distinct : List ℕ → Bool
 is_distinct [] = true
-is_distinct (x ∷ xs) = not (list_any (λ y. y == x) xs) && is_distinct xs
+is_distinct (x ∷ xs) = not (is_among xs x) && is_distinct xs
 
 -- none of the positions is taken, and none comes twice
 abbrev pub fits : (ℕ → Bool) → List ℕ → Bool
