@@ -1,0 +1,22 @@
+//! Files and a sink as the program meets them, the same in memory, and readers of whole files.
+#![tactic(auto)]
+
+mod files;
+mod sink;
+mod whole;
+
+pub use files::{FileErr, Files};
+pub use sink::{Sink, SinkErr};
+pub use whole::{WholeErr, read_whole};
+
+use std::alloc::AllocError;
+
+/// A call found no memory for what it was to do.
+#[derive(Clone, Copy, Debug, PartialEq, Eq)]
+pub struct NoMemory;
+
+impl From<AllocError> for NoMemory {
+    fn from(_: AllocError) -> Self {
+        NoMemory
+    }
+}
