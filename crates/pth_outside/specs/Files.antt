@@ -4,9 +4,13 @@ use Rattle.std.specs.Ordering.{nat_cmp}
 use Rattle.std.specs.Cmp.Lexicographic.{slice_cmp}
 use Rattle.std.specs.FinMap as map
 
--- the files that are there, by the bytes of their names
+-- what some names stand for, by their bytes
+abbrev pub AtNames : Type 0 → Type 0
+AtNames X = map.FinMap (slice_cmp nat_cmp) X
+
+-- the files that are there, with their bytes
 abbrev pub FileMap : Type 0
-FileMap = map.FinMap (slice_cmp nat_cmp) (List ℕ)
+FileMap = AtNames (List ℕ)
 
 -- a count that ends at the last value of its type rose
 abbrev pub Rose : ℕ → ℕ → Type 0
@@ -32,10 +36,10 @@ HasBytes told name bytes = IsSome told → contents told name ≡ Some bytes
 abbrev pub IsLonger : Option FileMap → List ℕ → ℕ → Type 0
 IsLonger told name most = IsSome told → IsSomeAnd (contents told name) (λ bytes. most < length bytes)
 
--- the files, but with this content of one of them, or without it
-abbrev pub put_at : FileMap → List ℕ → Option (List ℕ) → FileMap
-put_at files name None = map.remove files name
-put_at files name (Some bytes) = map.insert files name bytes
+-- the map, but with this at a name, or with nothing there
+abbrev pub put_at : {X : Type 0} → AtNames X → List ℕ → Option X → AtNames X
+put_at m name None = map.remove m name
+put_at m name (Some x) = map.insert m name x
 
 -- the files once this one is there and empty
 abbrev pub created : List ℕ → FileMap → FileMap

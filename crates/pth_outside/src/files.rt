@@ -1,6 +1,9 @@
 // Files by name, as the program reads, writes and replaces them.
 ghost use Rattle.std.specs.Prelude.{◌≡◌, ◌≢◌, ◌≤◌, ℕ, Bool, List, Option, length, IsTrue, IsSome, IsErr, IfOk, OnOk, OnErr, IsErrOf, option_map};
 ghost use Rattle.pth_outside.specs.Files.{FileMap, Rose, IsThere, contents, IsRead, created, appended, published, removed, AppendsFront};
+ghost use Rattle.pth_outside.specs.declared.files.FileErr.TheVariants.{NoMemory};
+
+use std::alloc::AllocError;
 
 /// Why a call on files gave up.
 #[derive(Clone, Copy, Debug, PartialEq, Eq)]
@@ -8,6 +11,14 @@ pub enum FileErr {
     /// The file is missing, or the outside failed.
     Failed,
     NoMemory,
+}
+
+impl From<AllocError> for FileErr {
+    ghost from_gives = { λ _ e. e ≡ NoMemory };
+
+    fn from(_: AllocError) -> Self {
+        FileErr::NoMemory
+    }
 }
 
 /// Files by name. An implementation over a real disk tells nothing of their content.

@@ -2,10 +2,15 @@
 #![tactic(auto)]
 
 mod files;
+mod memory_files;
+mod memory_sink;
 mod sink;
+mod slots;
 mod whole;
 
 pub use files::{FileErr, Files};
+pub use memory_files::MemFiles;
+pub use memory_sink::MemSink;
 pub use sink::{Sink, SinkErr};
 pub use whole::{WholeErr, read_whole};
 

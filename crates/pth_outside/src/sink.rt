@@ -2,6 +2,9 @@
 ghost use Rattle.std.specs.Prelude.{◌≡◌, ◌≤◌, ℕ, List, Option, OnOk, IsErrOf};
 ghost use Rattle.pth_outside.specs.Files.{Rose};
 ghost use Rattle.pth_outside.specs.Sink.{written, WritesFront};
+ghost use Rattle.pth_outside.specs.declared.sink.SinkErr.TheVariants.{NoMemory};
+
+use std::alloc::AllocError;
 
 /// Why a write gave up.
 #[derive(Clone, Copy, Debug, PartialEq, Eq)]
@@ -9,6 +12,14 @@ pub enum SinkErr {
     /// The outside failed, and took at most the front of the piece.
     Failed,
     NoMemory,
+}
+
+impl From<AllocError> for SinkErr {
+    ghost from_gives = { λ _ e. e ≡ NoMemory };
+
+    fn from(_: AllocError) -> Self {
+        SinkErr::NoMemory
+    }
 }
 
 /// A place that takes bytes one after another.
