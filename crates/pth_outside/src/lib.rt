@@ -1,0 +1,27 @@
+//! Files and a sink as the program meets them, the same in memory, and readers of whole files.
+#![tactic(auto)]
+
+mod files;
+mod memory_files;
+mod memory_sink;
+mod sink;
+mod slots;
+mod whole;
+
+pub use files::{FileErr, Files};
+pub use memory_files::MemFiles;
+pub use memory_sink::MemSink;
+pub use sink::{Sink, SinkErr};
+pub use whole::{WholeErr, read_whole};
+
+use std::alloc::AllocError;
+
+/// A call found no memory for what it was to do.
+#[derive(Clone, Copy, Debug, PartialEq, Eq)]
+pub struct NoMemory;
+
+impl From<AllocError> for NoMemory {
+    fn from(_: AllocError) -> Self {
+        NoMemory
+    }
+}
