@@ -1,0 +1,3 @@
+pub mod SizeLemmas
+pub mod Counts
+pub mod Placing
