@@ -1,0 +1,4 @@
+pub mod TruthValues
+pub mod BucketCounts
+pub mod Fitting
+pub mod Steps

@@ -1,0 +1,63 @@
+-- How a search goes from one bucket to the next.
+use Rattle.std.proofs.Common.{◌≡◌, ◌≢◌, ℕ, zero, suc, ◌+◌, ◌<◌, ◌≤◌, List, [], ◌∷◌, ◌++◌, length, take, get_or, Some, None, Ok, Err, refl, sym, ap, ◌∙◌, subst, add-one, arith, ⊎_elim}
+use Rattle.std.specs.Prelude.{slice_set, slice_index, replicate}
+use Rattle.std.proofs.lemmas.Bool.{cases_lt}
+use Rattle.std.proofs.lemmas.List.{take_more_set, take_all, length-set, length-replicate, get_or-set_other, get_or-replicate, get_or_past}
+use Rattle.std.specs.FinSet.{empty, contains, union, from_list}
+use Rattle.pthash.specs.Order.{bucket_at}
+use Rattle.pthash.specs.Search.{SearchPlan, SearchState, positions_of, pilot_of, with_pilot, after_bucket, prefix_of, search_of}
+use Rattle.pthash.specs.SearchLaws.{stuck_stays}
+use Rattle.pilot_search.specs.Table.{Table}
+use Rattle.pilot_search.specs.Outcome.{IsSearchedTo}
+
+-- before any bucket
+pub started : (plan : SearchPlan) (pilots : List ℕ) (table : Table) → pilots ≡ replicate (length plan.buckets) 0 → table.taken ≡ empty → table.size ≡ plan.size → IsSearchedTo plan 0 pilots table
+unfolding prefix_of
+started plan pilots table zeros none size = record {
+  state = ap (λ t. Ok (record { pilots = []; taken = t })) (sym none);
+  one_number_a_rank = ap length zeros ∙ length-replicate (length plan.buckets) 0;
+  no_pilot_yet = λ rank later.
+      ap (λ ps. slice_index ps rank) zeros
+      ∙ ⊎_elim
+      (λ (lower : rank < length plan.buckets). get_or-replicate (length plan.buckets) rank 0 0 lower)
+      (λ (higher : length plan.buckets ≤ rank). get_or_past (replicate (length plan.buckets) 0) rank 0 (omega (arith, length-replicate {A = ℕ} (length plan.buckets) 0)))
+      (cases_lt rank (length plan.buckets));
+  size = size;
+}
+
+-- after one more bucket, which has this pilot
+pub placed_more : (plan : SearchPlan) (rank k : ℕ) (pilots : List ℕ) (table after : Table) → rank < length plan.buckets → IsSearchedTo plan rank pilots table
+    → pilot_of plan (contains table.taken) (bucket_at plan.buckets rank).members ≡ Some k
+    → after.size ≡ table.size
+    → after.taken ≡ union table.taken (from_list (positions_of plan (bucket_at plan.buckets rank).members k))
+    → IsSearchedTo plan (rank + 1) (slice_set pilots rank k) after
+unfolding prefix_of
+placed_more plan rank k pilots table after known so_far found size gained =
+    let in_range : rank < length pilots = omega (arith, so_far.one_number_a_rank) in
+    record {
+      state =
+          rw add-one
+          (ap (after_bucket plan rank) so_far.state
+          ∙ ap (with_pilot plan rank (record { pilots = take rank pilots; taken = table.taken })) found
+          ∙ ap (λ ps. Ok (record { pilots = ps; taken = union table.taken (from_list (positions_of plan (bucket_at plan.buckets rank).members k)) })) (sym (ap (λ n. take n (slice_set pilots rank k)) (sym (add-one rank)) ∙ take_more_set pilots rank k in_range))
+          ∙ ap (λ t. Ok (record { pilots = take (suc rank) (slice_set pilots rank k); taken = t })) (sym gained));
+      one_number_a_rank = length-set pilots rank k ∙ so_far.one_number_a_rank;
+      no_pilot_yet = λ later beyond.
+          let other : later ≢ rank = omega arith in
+          get_or-set_other pilots rank later k 0 other ∙ so_far.no_pilot_yet later (omega arith);
+      size = size ∙ so_far.size;
+    }
+
+-- a bucket without a pilot stops the search at its rank
+pub stuck_here : (plan : SearchPlan) (rank : ℕ) (pilots : List ℕ) (table : Table) → rank < length plan.buckets → IsSearchedTo plan rank pilots table
+    → pilot_of plan (contains table.taken) (bucket_at plan.buckets rank).members ≡ None → search_of plan ≡ Err rank
+unfolding prefix_of
+stuck_here plan rank pilots table known so_far none =
+    let here : prefix_of plan (suc rank) ≡ Err rank =
+    ap (after_bucket plan rank) so_far.state ∙ ap (with_pilot plan rank (record { pilots = take rank pilots; taken = table.taken })) none in
+    stuck_stays plan (suc rank) rank (length plan.buckets) here (omega arith)
+
+-- after all buckets
+pub finished : (plan : SearchPlan) (pilots : List ℕ) (table : Table) → IsSearchedTo plan (length plan.buckets) pilots table → search_of plan ≡ Ok (record { pilots = pilots; taken = table.taken })
+finished plan pilots table so_far =
+    so_far.state ∙ ap (λ ps. Ok (record { pilots = ps; taken = table.taken })) (take_all (length plan.buckets) pilots (omega (arith, so_far.one_number_a_rank)))

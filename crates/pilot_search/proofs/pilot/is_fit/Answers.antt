@@ -1,0 +1,57 @@
+use Rattle.std.proofs.Common.{◌≡◌, ℕ, ◌<◌, ◌+◌, ◌||◌, ◌++◌, ◌∷◌, [], List, true, false, length, take, get_or, refl, sym, ap, ◌∙◌, arith}
+use Rattle.std.specs.Prelude.{bit_xor, ◌%◌}
+use Rattle.std.proofs.Math.Bool.{or-true}
+use Rattle.std.proofs.lemmas.List.{take_more, take_more_set}
+use Rattle.std.specs.FinSet.{contains}
+use Rattle.pthash.specs.Search.{is_among}
+use Rattle.pilot_search.specs.Table.{positions_under}
+use Rattle.pilot_search.proofs.Fitting.{fails_at, fits_at, get_or-positions_under, length-positions_under}
+use Rattle.pilot_search.proofs.pilot.is_fit.Goals as goal
+use Rattle.pilot_search.proofs.pilot.is_fit.Goals.{then-contains-via-then-contains, then-contains-via-else-contains+then-contains-2}
+
+pub returns-then-contains-clause-fits : goal.returns-then-contains-clause-fits
+returns-then-contains-clause-fits c =
+    let size : ℕ = c.args.occupied.now.size in
+    let members : List ℕ = c.args.members.now in
+    let i : ℕ = c.loop-i.i in
+    let taken = contains c.args.occupied.now.taken in
+    let places : List ℕ = positions_under c.args.hash size members in
+    let member : ℕ = bit_xor (get_or members i 0) c.args.hash in
+    let in_range : i < length places = omega (arith, length-positions_under c.args.hash size members) in
+    let here : get_or places i 0 ≡ member % size = get_or-positions_under c.args.hash size members i (omega arith) in
+    elim c.then-contains.branch [
+      | then-contains-via-then-contains w ↦
+          let known : taken (member % size) ≡ true = ap (λ s. taken (member % s)) (sym c.size-size.ensures) ∙ sym c.contains.ensures ∙ w.if-contains.true in
+          sym (fails_at taken places i (member % size) in_range here (ap (λ b. b || is_among (take i places) (member % size)) known))
+      | then-contains-via-else-contains+then-contains-2 w ↦
+          let again : is_among (take i places) (member % size) ≡ true =
+          ap (λ s. is_among (take i places) (member % s)) (sym c.size-size.ensures)
+          ∙ ap (λ ps. is_among ps (member % c.size-size.result)) (sym c.loop-i.invariant.places)
+          ∙ sym w.contains-else-contains.ensures.value ∙ w.if-contains-2.true in
+          sym (fails_at taken places i (member % size) in_range here (ap (λ b. taken (member % size) || b) again ∙ or-true (taken (member % size))))
+    ]
+
+pub loop-i-preserved : goal.loop-i-preserved
+loop-i-preserved c =
+    let size : ℕ = c.args.occupied.now.size in
+    let members : List ℕ = c.args.members.now in
+    let i : ℕ = c.loop-i.i in
+    let taken = contains c.args.occupied.now.taken in
+    let places : List ℕ = positions_under c.args.hash size members in
+    let member : ℕ = bit_xor (get_or members i 0) c.args.hash in
+    let in_range : i < length places = omega (arith, length-positions_under c.args.hash size members) in
+    let here : get_or places i 0 ≡ member % size = get_or-positions_under c.args.hash size members i (omega arith) in
+    let free : taken (member % size) ≡ false = ap (λ s. taken (member % s)) (sym c.size-size.ensures) ∙ sym c.contains.ensures ∙ c.if-contains.false in
+    let new : is_among (take i places) (member % size) ≡ false =
+    ap (λ s. is_among (take i places) (member % s)) (sym c.size-size.ensures)
+    ∙ ap (λ ps. is_among ps (member % c.size-size.result)) (sym c.loop-i.invariant.places)
+    ∙ sym c.contains-else-contains.ensures.value ∙ c.if-contains-2.false in
+    record {
+      fit = fits_at taken places i (member % size) in_range here c.loop-i.invariant.fit free new;
+      places =
+          take_more_set c.loop-i.positions i (member % c.size-size.result) (omega arith)
+          ∙ ap (λ ps. ps ++ (member % c.size-size.result) ∷ []) c.loop-i.invariant.places
+          ∙ ap (λ s. take i places ++ (member % s) ∷ []) c.size-size.ensures
+          ∙ ap (λ p. take i places ++ p ∷ []) (sym here)
+          ∙ sym (take_more places i 0 in_range);
+    }

@@ -1,0 +1,56 @@
+// The least pilot that sends the keys of one bucket to distinct free positions.
+#![tactic(auto)]
+
+ghost use Rattle.std.specs.Prelude.{◌≡◌, ◌<◌, ◌≤◌, length, take, IsTrue, IfSome};
+ghost use Rattle.std.specs.FinSet.{contains};
+ghost use Rattle.pthash.specs.Search.{fits, pilot_fits, pilot_of, positions_of};
+ghost use Rattle.pthash.specs.Least.{FailsBelow};
+ghost use Rattle.pilot_search.specs.Table.{positions_under};
+
+use crate::occupancy::Occupancy;
+use crate::plan::Plan;
+use murmur64::pilot_hash;
+
+// Whether a pilot of this hash fits; then `positions` begins with the members' positions.
+fn is_fit(members: &[u64], hash: u64, occupied: &Occupancy, positions: &mut [u64]) -> bool
+    requires room { length members.now ≤ length positions.old }
+    requires size { 0 < occupied.now.size }
+    ensures fits { let places = positions_under hash occupied.now.size members.now in
+        result ≡ fits (contains occupied.now.taken) places }
+    ensures positions { let places = positions_under hash occupied.now.size members.now in
+        IsTrue result → take (length members.now) positions.new ≡ places }
+{
+    let size = occupied.size();
+    for (i, member) in members.iter().enumerate() {
+        let position = (*member ^ hash) % size;
+        if occupied.contains(position) || positions[..i].contains(&position) {
+            return false;
+        }
+        positions[i] = position;
+    }
+    true
+}
+
+// The pilot of a bucket with these members, sought from `first` on, and then its positions.
+pub(crate) fn find_pilot(
+    plan: &Plan,
+    members: &[u64],
+    first: u64,
+    occupied: &Occupancy,
+    positions: &mut [u64],
+) -> Option<u64>
+    requires room { length members.now ≤ length positions.old }
+    requires size { occupied.now.size ≡ plan.now.size }
+    requires no_lower { FailsBelow (pilot_fits plan.now (contains occupied.now.taken) members.now) first }
+    ensures pilot { result ≡ pilot_of plan.now (contains occupied.now.taken) members.now }
+    ensures positions { let places = positions_of plan.now members.now in
+        IfSome result (λ k. take (length members.now) positions.new ≡ places k) }
+{
+    let seed = plan.seed();
+    for pilot in first..plan.limit() {
+        if is_fit(members, pilot_hash(pilot, seed), occupied, positions) {
+            return Some(pilot);
+        }
+    }
+    None
+}

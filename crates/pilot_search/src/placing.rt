@@ -1,0 +1,130 @@
+#![tactic(auto)]
+
+ghost use Rattle.std.specs.Prelude.{◌≡◌, ◌+◌, ◌<◌, ◌≤◌, length, OnOk, IfOk, IfErr};
+ghost use Rattle.std.specs.FinSet as set;
+ghost use Rattle.pthash.specs.Order.{bucket_at, most_members};
+ghost use Rattle.pthash.specs.Search.{fits, pilot_fits};
+ghost use Rattle.pthash.specs.Least.{FailsBelow};
+ghost use Rattle.pilot_search.specs.Outcome.{IsSearchedTo, IsPlacedSoFar, IsPlaced, IsStuckAt};
+
+use crate::occupancy::Occupancy;
+use crate::pilot::find_pilot;
+use crate::plan::Plan;
+use crate::scratch::Scratch;
+use bucket_map::NoMemory;
+use std::alloc::Global;
+
+/// What a search has placed: the pilots by rank, of which the first `done` are found, and the positions taken.
+#[derive(Drop)]
+pub struct Placed {
+    pub pilots: Vec<u64>,
+    pub done: u64,
+    pub occupied: Occupancy,
+}
+
+/// The bucket that no pilot below the limit fits: its rank and its number.
+#[derive(Clone, Copy, Debug, PartialEq, Eq)]
+pub struct Stuck {
+    pub rank: u64,
+    pub bucket: u64,
+}
+
+impl Placed {
+    /// The start of a search: no pilot found and no position taken.
+    pub fn new(alloc: Global, plan: &Plan) -> Result<Self, NoMemory>
+        ensures done { IfOk result (λ placed. placed.done ≡ 0) }
+        ensures placed { IfOk result (λ placed. IsPlacedSoFar plan.now placed) }
+    {
+        let Ok(pilots) = vec![in alloc; 0; plan.ranks() as usize] else {
+            return Err(NoMemory);
+        };
+        let occupied = Occupancy::new(alloc, plan.size())?;
+        Ok(Self {
+            pilots,
+            done: 0,
+            occupied,
+        })
+    }
+}
+
+// Gives the bucket at a rank its pilot, sought from `first` on.
+fn place_bucket(
+    plan: &Plan,
+    rank: u64,
+    first: u64,
+    pilots: &mut [u64],
+    occupied: &mut Occupancy,
+    positions: &mut [u64],
+) -> Result<(), Stuck>
+    requires rank { rank < length plan.now.buckets }
+    requires room { most_members plan.now.buckets ≤ length positions.old }
+    requires so_far { IsSearchedTo plan.now rank pilots.old occupied.old }
+    requires no_lower { let members = (bucket_at plan.now.buckets rank).members in
+        FailsBelow (pilot_fits plan.now (set.contains occupied.old.taken) members) first }
+    ensures placed { OnOk result (IsSearchedTo plan.now (rank + 1) pilots.new occupied.new) }
+    ensures stuck { IfErr result (λ stuck. IsStuckAt plan.now stuck) }
+{
+    let members = plan.members(rank);
+    match find_pilot(plan, members, first, occupied, positions) {
+        Some(pilot) => {
+            pilots[rank as usize] = pilot;
+            occupied.take_all(&positions[..members.len()]);
+            Ok(())
+        }
+        None => Err(Stuck {
+            rank,
+            bucket: plan.bucket(rank),
+        }),
+    }
+}
+
+// Places the buckets from a rank on.
+fn place_ranks(
+    plan: &Plan,
+    start: u64,
+    pilots: &mut [u64],
+    occupied: &mut Occupancy,
+    positions: &mut [u64],
+) -> Result<(), Stuck>
+    requires start { start ≤ length plan.now.buckets }
+    requires room { most_members plan.now.buckets ≤ length positions.old }
+    requires so_far { IsSearchedTo plan.now start pilots.old occupied.old }
+    ensures placed { OnOk result (IsSearchedTo plan.now (length plan.now.buckets) pilots.new occupied.new) }
+    ensures stuck { IfErr result (λ stuck. IsStuckAt plan.now stuck) }
+{
+    for rank in start..plan.ranks() {
+        place_bucket(plan, rank, 0, pilots, occupied, positions)?;
+    }
+    Ok(())
+}
+
+/// Goes on with a search, to its end or to the bucket at which it is stuck.
+pub fn place_from(plan: &Plan, placed: Placed, scratch: &mut Scratch) -> Result<Placed, Stuck>
+    requires done { placed.done ≤ length plan.now.buckets }
+    requires so_far { IsPlacedSoFar plan.now placed }
+    requires room { most_members plan.now.buckets ≤ scratch.old.members }
+    ensures placed { IfOk result (λ placed. IsPlaced plan.now placed) }
+    ensures stuck { IfErr result (λ stuck. IsStuckAt plan.now stuck) }
+    ensures room { scratch.new.members ≡ scratch.old.members }
+{
+    let mut placed = placed;
+    place_ranks(
+        plan,
+        placed.done,
+        &mut placed.pilots,
+        &mut placed.occupied,
+        &mut scratch.positions,
+    )?;
+    placed.done = plan.ranks();
+    Ok(placed)
+}
+
+/// The whole search: the pilot of each bucket is the least that sends its keys to distinct free positions.
+pub fn place(alloc: Global, plan: &Plan) -> Result<Result<Placed, Stuck>, NoMemory>
+    ensures placed { IfOk result (λ answer. IfOk answer (λ placed. IsPlaced plan.now placed)) }
+    ensures stuck { IfOk result (λ answer. IfErr answer (λ stuck. IsStuckAt plan.now stuck)) }
+{
+    let mut scratch = Scratch::new(alloc, plan)?;
+    let placed = Placed::new(alloc, plan)?;
+    Ok(place_from(plan, placed, &mut scratch))
+}
