@@ -1,4 +1,6 @@
 pub mod Files
+pub mod KeyLaws
+pub mod Keys
 pub mod Memory
 pub mod MemorySink
 pub mod Sink

@@ -16,15 +16,18 @@ bytes_of slot = option_map (λ v. v.items) slot.bytes
 abbrev pub mark_of : Slot → Option (Unit {0})
 mark_of slot = if slot.created then Some tt else None
 
+-- what the first slot with each name holds
+abbrev pub held : {X : Type 0} → (Slot → Option X) → List Slot → AtNames X
+held content [] = map.empty
+held content (slot ∷ slots) = put_at (held content slots) (name_of slot) (content slot)
+
 -- the files that slots stand for
 abbrev pub files_of : List Slot → FileMap
-files_of [] = map.empty
-files_of (slot ∷ slots) = put_at (files_of slots) (name_of slot) (bytes_of slot)
+files_of slots = held bytes_of slots
 
 -- the names whose slots are marked
 abbrev pub marks_of : List Slot → AtNames (Unit {0})
-marks_of [] = map.empty
-marks_of (slot ∷ slots) = put_at (marks_of slots) (name_of slot) (mark_of slot)
+marks_of slots = held mark_of slots
 
 -- the slot at this place is the first with the name
 abbrev pub IsSlotOf : List Slot → List ℕ → ℕ → Type 0

@@ -16,6 +16,9 @@ pub use whole::{WholeErr, read_whole};
 
 use std::alloc::AllocError;
 
+/// The byte between two keys of a key file.
+pub const LINE_FEED: u8 = b'\n';
+
 /// A call found no memory for what it was to do.
 #[derive(Clone, Copy, Debug, PartialEq, Eq)]
 pub struct NoMemory;

@@ -4,7 +4,9 @@ ghost use Rattle.std.specs.FinMap as map;
 ghost use Rattle.pth_outside.specs.Files.{put_at, created, appended, published, removed, one_more, Rose, IsThere, contents, IsRead, AppendsFront};
 ghost use Rattle.pth_outside.specs.Memory.{counted, faulted, is_listed, left_from, MustFail, Ends};
 
-use crate::slots::{Slot, copy_from, find, slot_of};
+use crate::slots::{
+    Slot, bytes_at, copy_from, extend, is_marked, make_empty, put_bytes, rename, take_bytes,
+};
 use crate::{FileErr, Files, NoMemory};
 use std::alloc::{AllocError, Global};
 use std::marker::Model;
@@ -57,8 +59,7 @@ impl MemFiles {
         ensures err { OnErr result (self.new ≡ self.old) }
     {
         let bytes = bytes.to_vec(self.alloc)?;
-        let place = slot_of(self.alloc, &mut self.slots, name)?;
-        self.slots[place].bytes = Some(bytes);
+        put_bytes(self.alloc, &mut self.slots, name, bytes)?;
         Ok(())
     }
 
@@ -66,18 +67,14 @@ impl MemFiles {
     pub fn get(&self, name: &str) -> Option<&[u8]>
         ensures { option_copied result ≡ map.get self.now.files name.now }
     {
-        let place = find(&self.slots, name)?;
-        self.slots[place].bytes.as_deref()
+        bytes_at(&self.slots, name)
     }
 
     /// Whether a `create` of this name has answered `Ok`.
     pub fn created(&self, name: &str) -> bool
         ensures { result ≡ map.contains_key self.now.created name.now }
     {
-        match find(&self.slots, name) {
-            Some(place) => self.slots[place].created,
-            None => false,
-        }
+        is_marked(&self.slots, name)
     }
 
     // Counts a call, and tells whether it is one of those that fail.
@@ -94,6 +91,7 @@ impl MemFiles {
     fn fault(&mut self) -> FileErr
         ensures failed { result ≡ FileErr.Failed }
         ensures counted { self.new ≡ record self.old { faults = one_more self.old.faults } }
+        ensures later { self.old.faults ≤ self.new.faults }
     {
         self.faults = self.faults.saturating_add(1);
         FileErr::Failed
@@ -111,7 +109,7 @@ impl Files for MemFiles {
         if self.begin() {
             return Err(self.fault());
         }
-        let Some(bytes) = self.get(name) else {
+        let Some(bytes) = bytes_at(&self.slots, name) else {
             return Err(self.fault());
         };
         Ok(copy_from(bytes, at, self.most, into))
@@ -121,24 +119,15 @@ impl Files for MemFiles {
         if self.begin() {
             return Err(self.fault());
         }
-        let place = slot_of(self.alloc, &mut self.slots, name)?;
-        let slot = &mut self.slots[place];
-        slot.bytes = Some(Vec::new(self.alloc));
-        slot.created = true;
+        make_empty(self.alloc, &mut self.slots, name)?;
         Ok(())
     }
 
     fn append(&mut self, name: &str, piece: &[u8]) -> Result<(), FileErr> {
         let fails = self.begin();
-        let Some(place) = find(&self.slots, name) else {
-            return Err(self.fault());
-        };
         let kept = if fails { piece.len() / 2 } else { piece.len() };
-        match &mut self.slots[place].bytes {
-            Some(bytes) => bytes.extend_from_slice(&piece[..kept])?,
-            None => return Err(self.fault()),
-        }
-        if fails {
+        let there = extend(&mut self.slots, name, &piece[..kept])?;
+        if fails || !there {
             return Err(self.fault());
         }
         Ok(())
@@ -148,14 +137,9 @@ impl Files for MemFiles {
         if self.begin() {
             return Err(self.fault());
         }
-        let goal = slot_of(self.alloc, &mut self.slots, to)?;
-        let Some(source) = find(&self.slots, from) else {
+        if !rename(self.alloc, &mut self.slots, from, to)? {
             return Err(self.fault());
-        };
-        let Some(bytes) = self.slots[source].bytes.take() else {
-            return Err(self.fault());
-        };
-        self.slots[goal].bytes = Some(bytes);
+        }
         Ok(())
     }
 
@@ -163,12 +147,9 @@ impl Files for MemFiles {
         if self.begin() {
             return Err(self.fault());
         }
-        let Some(place) = find(&self.slots, name) else {
+        if take_bytes(&mut self.slots, name).is_none() {
             return Err(self.fault());
-        };
-        match self.slots[place].bytes.take() {
-            Some(_) => Ok(()),
-            None => Err(self.fault()),
         }
+        Ok(())
     }
 }

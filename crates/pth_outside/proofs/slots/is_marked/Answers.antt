@@ -1,0 +1,15 @@
+use Rattle.std.proofs.Common.{Bool, true, false, refl, sym, ap, ◌≡◌, ◌∙◌, Option, Some, None, cond, is_some}
+use Rattle.pth_outside.specs.Slots.{mark_of}
+use Rattle.pth_outside.proofs.SlotLemmas.{held_at, held_absent}
+use Rattle.pth_outside.proofs.slots.is_marked.Goals as goal
+
+marked : (b : Bool) → b ≡ is_some {T = Unit {0}} (cond b (Some tt) None)
+marked true = refl
+marked false = refl
+
+pub returns-in-Some : goal.returns-in-Some
+returns-in-Some c =
+    marked _ ∙ ap is_some (sym (held_at mark_of c.args.slots.now c.args.name.now c.in-Some.place c.index-slots-place.result c.in-Some.ensures.found c.index-slots-place.is))
+
+pub returns-in-None : goal.returns-in-None
+returns-in-None c = ap is_some (sym (held_absent mark_of c.args.slots.now c.args.name.now c.in-None.ensures.none))
