@@ -1,7 +1,12 @@
--- What words ask for, and what a command that was done gives.
-use Rattle.std.specs.Prelude.{ℕ, List}
+-- What a command that was done gives.
+use Rattle.std.specs.Prelude.{ℕ, List, string_bytes}
+use Rattle.pth_top.specs.declared.answer.Answer.{Answer}
 
--- the status and the text of a command that was done; it changes no file
+-- a status and a text; no file changes
 pub record Done : Type 0 where
   pub status : ℕ
   pub text : List ℕ
+
+-- what an answer gives
+abbrev pub done_of : Answer → Done
+done_of answer = record { status = answer.status; text = string_bytes answer.text }

@@ -1,0 +1,35 @@
+// What a command answers, or why it gave up.
+ghost use Rattle.pth_top.specs.declared.answer.Stop.TheVariants.{NoMemory as OutOfMemory};
+
+use std::alloc::AllocError;
+
+/// The status and the text of a command that was done.
+#[derive(Drop)]
+pub struct Answer {
+    pub status: u8,
+    pub text: String,
+}
+
+/// Why a command was not done.
+#[derive(Clone, Copy, Debug, PartialEq, Eq)]
+pub enum Stop {
+    /// A call on the files failed.
+    Fault,
+    NoMemory,
+}
+
+impl From<AllocError> for Stop {
+    ghost from_gives = { λ _ e. e ≡ OutOfMemory };
+
+    fn from(_: AllocError) -> Self {
+        Stop::NoMemory
+    }
+}
+
+impl From<bucket_map::NoMemory> for Stop {
+    ghost from_gives = { λ _ e. e ≡ OutOfMemory };
+
+    fn from(_: bucket_map::NoMemory) -> Self {
+        Stop::NoMemory
+    }
+}
