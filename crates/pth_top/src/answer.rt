@@ -1,4 +1,5 @@
 // What a command answers, or why it gave up.
+ghost use Rattle.std.specs.Prelude.{◌≡◌};
 ghost use Rattle.pth_top.specs.declared.answer.Stop.TheVariants.{NoMemory as OutOfMemory};
 
 use std::alloc::AllocError;

@@ -1,0 +1,2 @@
+mod AllCut
+mod FirstKey
