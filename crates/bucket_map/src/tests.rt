@@ -41,7 +41,15 @@ fn a_border_hash_is_a_back_hash(rt: HostRuntime) {
 #[test]
 fn the_larger_bucket_comes_first(rt: HostRuntime) -> Result<(), Fail> {
     let border = pthash::FRONT_HASHES;
-    let hashes = [0, 1, border + 1, border + 4, border + 7, border + 2, border + 5];
+    let hashes = [
+        0,
+        1,
+        border + 1,
+        border + 4,
+        border + 7,
+        border + 2,
+        border + 5,
+    ];
     let mut records = Vec::new(rt.alloc());
     for (i, a) in hashes.iter().enumerate() {
         let ordinal = i as u64;

@@ -1,4 +1,4 @@
-use Rattle.std.proofs.Common.{◌≡◌, ◌<◌, ◌≤◌, ℕ, ◌+◌, ◌*◌, ◌/◌, ◌%◌, ◌^◌, max, bit_xor, inl, inr, refl, sym, ap, ◌∙◌, arith}
+use Rattle.std.proofs.Common.{◌≡◌, ℕ, ◌*◌, max, ap, ◌∙◌}
 use Rattle.std.specs.Int.{div_ceil}
 use Rattle.bucket_map.proofs.SizeLemmas.{bucket_count_of-none, bucket_count_of-some}
 use Rattle.bucket_map.proofs.sizes.bucket_count.Goals as goal

@@ -1,4 +1,3 @@
-use Rattle.std.proofs.Common.{◌≡◌, ◌<◌, ◌≤◌, ℕ, ◌+◌, ◌*◌, ◌/◌, ◌%◌, ◌^◌, max, bit_xor, inl, inr, refl, sym, ap, ◌∙◌, arith}
 use Rattle.bucket_map.proofs.SizeLemmas.{bucket_of-front, bucket_of-back}
 use Rattle.bucket_map.proofs.sizes.bucket_of.Goals as goal
 

@@ -1,4 +1,4 @@
-use Rattle.std.proofs.Common.{◌≡◌, ◌<◌, ◌≤◌, ℕ, ◌+◌, ◌*◌, ◌/◌, ◌%◌, ◌^◌, max, bit_xor, inl, inr, refl, sym, ap, ◌∙◌, arith}
+use Rattle.std.proofs.Common.{◌≡◌, ◌<◌, ℕ, ◌*◌, ◌/◌, ◌^◌, bit_xor, ap, ◌∙◌, arith}
 use Rattle.pthash.specs.Sizes.{partition_of}
 use Rattle.bucket_map.proofs.SizeLemmas.{partition_of-lt}
 use Rattle.bucket_map.proofs.sizes.partition_of.Goals as goal

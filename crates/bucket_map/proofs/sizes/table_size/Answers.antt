@@ -1,4 +1,4 @@
-use Rattle.std.proofs.Common.{◌≡◌, ◌<◌, ◌≤◌, ℕ, ◌+◌, ◌*◌, ◌/◌, ◌%◌, ◌^◌, max, bit_xor, inl, inr, refl, sym, ap, ◌∙◌, arith}
+use Rattle.std.proofs.Common.{ℕ, ◌*◌, sym, ap, ◌∙◌}
 use Rattle.std.specs.Int.{div_ceil}
 use Rattle.bucket_map.proofs.SizeLemmas.{table_size_of-power, table_size_of-other}
 use Rattle.bucket_map.proofs.sizes.table_size.Goals as goal
