@@ -6,6 +6,8 @@ mod pilot;
 mod placing;
 mod plan;
 mod scratch;
+#[cfg(test)]
+mod tests;
 
 pub use crate::occupancy::Occupancy;
 pub use crate::placing::{Placed, Stuck, place, place_from};

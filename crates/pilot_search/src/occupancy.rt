@@ -36,9 +36,7 @@ impl Occupancy {
         ensures size { IfOk result (λ table. table.size ≡ size) }
         ensures taken { IfOk result (λ table. table.taken ≡ set.empty) }
     {
-        let Ok(taken) = vec![in alloc; false; size as usize] else {
-            return Err(NoMemory);
-        };
+        let taken = vec![in alloc; false; size as usize]?;
         Ok(Self { taken, count: 0 })
     }
 

@@ -35,9 +35,7 @@ impl Placed {
         ensures done { IfOk result (λ placed. placed.done ≡ 0) }
         ensures placed { IfOk result (λ placed. IsPlacedSoFar plan.now placed) }
     {
-        let Ok(pilots) = vec![in alloc; 0; plan.ranks() as usize] else {
-            return Err(NoMemory);
-        };
+        let pilots = vec![in alloc; 0; plan.ranks() as usize]?;
         let occupied = Occupancy::new(alloc, plan.size())?;
         Ok(Self {
             pilots,
@@ -71,10 +69,10 @@ fn place_bucket(
             occupied.take_all(&positions[..members.len()]);
             Ok(())
         }
-        None => Err(Stuck {
-            rank,
-            bucket: plan.bucket(rank),
-        }),
+        None => {
+            let bucket = plan.bucket(rank);
+            Err(Stuck { rank, bucket })
+        }
     }
 }
 

@@ -28,9 +28,7 @@ impl Scratch {
     pub fn new(alloc: Global, plan: &Plan) -> Result<Self, NoMemory>
         ensures { IfOk result (λ scratch. most_members plan.now.buckets ≤ scratch.members) }
     {
-        let Ok(positions) = vec![in alloc; 0; plan.largest() as usize] else {
-            return Err(NoMemory);
-        };
+        let positions = vec![in alloc; 0; plan.largest() as usize]?;
         Ok(Self { positions })
     }
 }

@@ -29,5 +29,5 @@ returns-in-None-clause-stuck c =
     record {
       found = stuck_here c.args.plan.now c.args.rank c.args.pilots.now c.args.occupied.now c.requires.rank c.requires.so_far
           (ap (λ members. pilot_of c.args.plan.now (set.contains c.args.occupied.now.taken) members) (sym c.members-members.ensures.value) ∙ sym c.in-None.ensures.pilot);
-      bucket = c.bucket.ensures;
+      bucket = c.bucket-bucket.ensures;
     }

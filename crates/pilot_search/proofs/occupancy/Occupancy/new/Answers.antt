@@ -7,9 +7,9 @@ use Rattle.pilot_search.proofs.occupancy.Occupancy.new.Goals as goal
 
 pub invariant_of-result : goal.invariant_of-result
 invariant_of-result c =
-    let none = ap set_of (c.in-Ok.ensures.items_if_clones_equal (λ y same. same)) ∙ set_of-replicate c.args.size in
+    let none = ap set_of (c.in_ok-taken.ensures.items_if_clones_equal (λ y same. same)) ∙ set_of-replicate c.args.size in
     sym (ap len none ∙ len-empty nat_cmp)
 
 pub returns-clause-taken : goal.returns-clause-taken
 returns-clause-taken c =
-    ap set_of (c.in-Ok.ensures.items_if_clones_equal (λ y same. same)) ∙ set_of-replicate c.args.size
+    ap set_of (c.in_ok-taken.ensures.items_if_clones_equal (λ y same. same)) ∙ set_of-replicate c.args.size
