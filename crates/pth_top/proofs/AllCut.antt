@@ -7,7 +7,7 @@ use Rattle.pth_outside.specs.Keys.{keys_of}
 use Rattle.pth_outside.specs.KeyLaws.{keys_of-nothing}
 
 pub all_cut : (all items : List Record) (rest : List ℕ) (seed : ℕ) → length rest ≡ 0
-  → all ≡ items ++ records_from (length items) (keys_of rest) seed → items ≡ all
+    → all ≡ items ++ records_from (length items) (keys_of rest) seed → items ≡ all
 all_cut all items [] seed none cut =
     let nothing : records_from (length items) (keys_of []) seed ≡ [] = rw keys_of-nothing refl in
     sym (cut ∙ ap (λ more. items ++ more) nothing ∙ append-nil items)

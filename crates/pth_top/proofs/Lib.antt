@@ -1,2 +1,6 @@
 mod AllCut
 mod FirstKey
+mod Numbered
+mod PartPilots
+mod Results
+mod Writes

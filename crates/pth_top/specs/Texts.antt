@@ -33,7 +33,7 @@ spaced numbers = flat_map (λ n. 32 ∷ decimal n) numbers
 unfoldable pub part_lines : ℕ → ℕ → ℕ → List ℕ → List ℕ
 part_lines part keys size pilots =
     line (codes "part " ++ decimal part ++ codes " keys " ++ decimal keys ++ codes " size " ++ decimal size
-      ++ codes " buckets " ++ decimal (length pilots))
+    ++ codes " buckets " ++ decimal (length pilots))
     ++ line (codes "pilots" ++ spaced pilots)
 
 -- the seed and the number of keys, before the lines of the partitions
@@ -44,7 +44,7 @@ seed_lines seed keys = line (codes "seed " ++ decimal seed) ++ line (codes "keys
 unfoldable pub stuck_line : ℕ → ℕ → ℕ → List ℕ
 stuck_line seed part bucket =
     line (codes "seed " ++ decimal seed ++ codes ": part " ++ decimal part ++ codes " bucket " ++ decimal bucket
-      ++ codes " has no pilot")
+    ++ codes " has no pilot")
 
 -- no seed of the list led to an end
 abbrev pub seeds_exhausted : List ℕ

@@ -6,8 +6,8 @@ ghost use Rattle.pthash.specs.ByBucket.{pilots_by_number};
 ghost use Rattle.pilot_search.specs.Outcome.{IsStuckAt};
 ghost use Rattle.pth_top.specs.Part.{plan_of, ArePilotsOf};
 
-use bucket_map::{bucket_count, ordered_buckets, table_size, Buckets, NoMemory, Record, MAX_KEYS};
-use pilot_search::{place, Plan, Stuck};
+use bucket_map::{Buckets, MAX_KEYS, NoMemory, Record, bucket_count, ordered_buckets, table_size};
+use pilot_search::{Plan, Stuck, place};
 use std::alloc::{AllocError, Global};
 
 /// The pilots of a partition by bucket number, or the bucket that has none.
@@ -29,7 +29,7 @@ pub fn part_pilots(
     requires limit_high { limit < 2 ^ 32 }
     ensures pilots { IfOk result (λ answer. IfOk answer (λ pilots.
         ArePilotsOf (plan_of records.now seed alpha c limit) (bucket_count_of (length records.now) c)
-            pilots.items)) }
+        pilots.items)) }
     ensures stuck { IfOk result (λ answer. IfErr answer (λ stuck.
         IsStuckAt (plan_of records.now seed alpha c limit) stuck)) }
 {
@@ -48,7 +48,12 @@ pub fn part_pilots(
 }
 
 // The pilots of m buckets by number, from the pilots by rank.
-fn by_number(alloc: Global, buckets: &Buckets, pilots: &[u64], m: u64) -> Result<Vec<u64>, AllocError>
+fn by_number(
+    alloc: Global,
+    buckets: &Buckets,
+    pilots: &[u64],
+    m: u64,
+) -> Result<Vec<u64>, AllocError>
     requires one_a_rank { length pilots.now ≡ length buckets.now }
     requires below { (rank : ℕ) → rank < length buckets.now → (bucket_at buckets.now rank).number < m }
     ensures { IfOk result (λ v. v.items ≡ pilots_by_number buckets.now pilots.now m) }

@@ -12,8 +12,8 @@ use crate::part::part_pilots;
 use crate::records::records_of_text;
 use crate::text::{push_part, push_seed, push_stuck, too_large_text};
 use crate::{ALPHA, C, MOST_BYTES, PILOT_LIMIT, SEED, WORDS_REFUSED};
-use bucket_map::{table_size, NoMemory, MAX_KEYS};
-use pth_outside::{read_whole, Files, WholeErr};
+use bucket_map::{MAX_KEYS, NoMemory, table_size};
+use pth_outside::{Files, WholeErr, read_whole};
 use std::alloc::{AllocError, Global};
 
 /// Reads a key file, and answers the pilots of its keys or why there are none.

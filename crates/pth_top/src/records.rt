@@ -1,17 +1,18 @@
 // The keys of a text as records.
-ghost use Rattle.std.specs.Prelude.{◌≡◌, ◌∷◌, ◌<◌, length, IfOk};
+ghost use Rattle.std.specs.Prelude.{◌≡◌, ◌∷◌, ◌<◌, ◌≤◌, length, IfOk};
 ghost use Rattle.pthash.specs.Records.{records_of};
 ghost use Rattle.pth_outside.specs.Keys.{keys_of};
 
+use bucket_map::Record;
 use memchr::memchr;
 use murmur64::hash_pair;
 use pth_outside::LINE_FEED;
-use bucket_map::Record;
 use std::alloc::{AllocError, Global};
 
 /// The records of the keys of a text at a seed.
 pub fn records_of_text(alloc: Global, text: &[u8], seed: u64) -> Result<Vec<Record>, AllocError>
-    ensures { IfOk result (λ records. records.items ≡ records_of (keys_of text.now) seed) }
+    ensures records { IfOk result (λ records. records.items ≡ records_of (keys_of text.now) seed) }
+    ensures few { IfOk result (λ records. length records.items ≤ length text.now) }
 {
     let mut records = Vec::new(alloc);
     let mut rest = text;

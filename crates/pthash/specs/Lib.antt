@@ -7,5 +7,6 @@ pub mod Search
 pub mod Least
 pub mod SearchLaws
 pub mod ByBucket
+pub mod ByBucketLaws
 pub mod Examples
 pub mod SearchExamples

@@ -6,4 +6,4 @@ pub returns : goal.returns
 unfolding stuck_line
 returns c =
     rw (c.in_ok-push_str.ensures.bytes, c.in_ok-push_number-3.ensures, c.in_ok-push_number-2.ensures, c.in_ok-push_number.ensures)
-      (simp append_assoc)
+    (simp append_assoc)

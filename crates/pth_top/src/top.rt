@@ -26,7 +26,7 @@ pub fn run<R, F: Files, O: Sink>(
     // What the words ask for was done: status and text are those of the definition.
     ensures done { IsOfCommand result → IfSome (F.told files.old) (λ m.
         IsSomeAnd (done (words_of words.now) m) (λ d.
-            EndsAs d result (O.told out.old) (O.told out.new) (O.faults out.old) (O.faults out.new))) }
+        EndsAs d result (O.told out.old) (O.told out.new) (O.faults out.old) (O.faults out.new))) }
 
     // Words that ask for nothing are refused, whatever the files tell, with no call on them.
     ensures refused { key_file_of (words_of words.now) ≡ None → result ≢ NO_MEMORY →
@@ -45,7 +45,7 @@ pub fn run<R, F: Files, O: Sink>(
     ensures output { result ≡ FAILED_OUTPUT → Rose (O.faults out.old) (O.faults out.new) }
     ensures output_front { result ≡ FAILED_OUTPUT → IfSome (F.told files.old) (λ m.
         IsSomeAnd (done (words_of words.now) m) (λ d.
-            (d.status ≡ 0) × WritesFront d.text (O.told out.old) (O.told out.new))) }
+        (d.status ≡ 0) × WritesFront d.text (O.told out.old) (O.told out.new))) }
 
     // After want of memory the sink has gained at most its text.
     ensures memory { result ≡ NO_MEMORY → WritesFront no_memory (O.told out.old) (O.told out.new) }
