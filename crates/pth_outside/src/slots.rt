@@ -28,11 +28,7 @@ pub(crate) fn find(slots: &[Slot], name: &str) -> Option<usize>
 }
 
 // The place of the first slot with the name, which is made if there is none.
-pub(crate) fn slot_of(
-    alloc: Global,
-    slots: &mut Vec<Slot>,
-    name: &str,
-) -> Result<usize, AllocError>
+pub(crate) fn slot_of(alloc: Global, slots: &mut Vec<Slot>, name: &str) -> Result<usize, AllocError>
     ensures found { IfOk result (λ i. IsSlotOf slots.new.items name.now i) }
     ensures within { IfOk result (λ i. i < vec_len slots.new) }
     ensures files { files_of slots.new.items ≡ files_of slots.old.items }
@@ -88,11 +84,7 @@ pub(crate) fn put_bytes(
 }
 
 // Puts an empty file there, and marks it as created.
-pub(crate) fn make_empty(
-    alloc: Global,
-    slots: &mut Vec<Slot>,
-    name: &str,
-) -> Result<(), AllocError>
+pub(crate) fn make_empty(alloc: Global, slots: &mut Vec<Slot>, name: &str) -> Result<(), AllocError>
     ensures ok { OnOk result (files_of slots.new.items ≡ created name.now (files_of slots.old.items)) }
     ensures marked { OnOk result (marks_of slots.new.items ≡ put_at (marks_of slots.old.items) name.now (Some tt)) }
     ensures err { OnErr result (files_of slots.new.items ≡ files_of slots.old.items) }
@@ -106,11 +98,7 @@ pub(crate) fn make_empty(
 }
 
 // Puts a piece at the end of a file, and tells whether the file is there.
-pub(crate) fn extend(
-    slots: &mut [Slot],
-    name: &str,
-    piece: &[u8],
-) -> Result<bool, AllocError>
+pub(crate) fn extend(slots: &mut [Slot], name: &str, piece: &[u8]) -> Result<bool, AllocError>
     ensures there { IfOk result (λ there. there ≡ map.contains_key (files_of slots.old) name.now) }
     ensures ok { OnOk result (files_of slots.new ≡ appended name.now piece.now (files_of slots.old)) }
     ensures err { OnErr result (files_of slots.new ≡ files_of slots.old) }
