@@ -1,5 +1,5 @@
 -- What files in memory hold, which of their calls fail, and how a call on them ends.
-use Rattle.std.specs.Prelude.{◌≡◌, ℕ, ◌-◌, ◌/◌, ◌==◌, ◌⊎◌, Bool, IsTrue, List, length, [], Option, Some, None, unwrap_or, refl, Result, IsErrOf, OnOk}
+use Rattle.std.specs.Prelude.{◌≡◌, ℕ, ◌-◌, ◌==◌, ◌⊎◌, Bool, IsTrue, List, length, [], Option, Some, None, unwrap_or, refl, Result, IsErrOf, OnOk}
 use Rattle.std.specs.List.{list_any}
 use Rattle.std.specs.Coded.{Coded, code_by, coded×, coded_ℕ, coded_list}
 use base.Stored.{coded_unit}

@@ -11,7 +11,7 @@ use crate::{FileErr, Files, NoMemory};
 use std::alloc::{AllocError, Global};
 use std::marker::Model;
 
-/// Files in memory. The calls of `Files` are numbered from 0, and those whose number is listed fail.
+/// Files in memory. The calls of `Files` are numbered from 0, and the listed ones fail.
 #[derive(Drop)]
 pub struct MemFiles {
     alloc: Global,
@@ -32,7 +32,14 @@ impl Model for MemFiles {
 
     ghost use Rattle.pth_outside.specs.Slots.{files_of, marks_of};
 
-    ghost view = { λ m. record { files = files_of m.slots.items; created = marks_of m.slots.items; fails = m.fails.items; most = m.most; calls = m.calls; faults = m.faults } };
+    ghost view = { λ m. record {
+      files = files_of m.slots.items;
+      created = marks_of m.slots.items;
+      fails = m.fails.items;
+      most = m.most;
+      calls = m.calls;
+      faults = m.faults;
+    } };
 
     ghost invariant = { λ m. 0 < m.most };
 }
@@ -60,7 +67,8 @@ impl MemFiles {
 
     /// Puts a file there, in place of the one that has the name. This is no call of `Files`.
     pub fn put(&mut self, name: &str, bytes: &[u8]) -> Result<(), NoMemory>
-        ensures ok { OnOk result (self.new ≡ with_files (put_at self.old.files name.now (Some bytes.now)) self.old) }
+        ensures ok { OnOk result
+            (self.new ≡ with_files (put_at self.old.files name.now (Some bytes.now)) self.old) }
         ensures err { OnErr result (self.new ≡ self.old) }
     {
         let bytes = bytes.to_vec(self.alloc)?;
@@ -115,7 +123,8 @@ impl Files for MemFiles {
             Ends (MustFail old name.now) old (counted old) (faulted old) self.new result }
         ensures later { self.old.faults ≤ self.new.faults }
         ensures read { IfOk result (λ count. (bytes : List ℕ) →
-            map.get self.old.files name.now ≡ Some bytes → IsRead bytes at into.old into.new count) }
+            map.get self.old.files name.now ≡ Some bytes →
+            IsRead bytes at into.old into.new count) }
         ensures count { IfOk result (λ count.
             let left = left_from at (map.get self.old.files name.now) in
             count ≡ min self.old.most (min (length into.old) left)) }

@@ -43,9 +43,12 @@ pub fn read_whole<F: Files>(
 ) -> Result<Vec<u8>, WholeErr>
     ensures ok { IfOk result (λ bytes. HasBytes (F.told files.old) name.now bytes.items) }
     ensures bound { IfOk result (λ bytes. vec_len bytes ≤ most) }
-    ensures too_large { IsErrOf result WholeErr.TooLarge → IsLonger (F.told files.old) name.now most }
-    ensures fault { IsErrOf result WholeErr.Fault → Rose (F.faults files.old) (F.faults files.new) }
-    ensures missing { IsErrOf result WholeErr.Fault → IsTrue (F.sure files.old) → contents (F.told files.old) name.now ≡ None }
+    ensures too_large { IsErrOf result WholeErr.TooLarge →
+        IsLonger (F.told files.old) name.now most }
+    ensures fault { IsErrOf result WholeErr.Fault →
+        Rose (F.faults files.old) (F.faults files.new) }
+    ensures missing { IsErrOf result WholeErr.Fault → IsTrue (F.sure files.old) →
+        contents (F.told files.old) name.now ≡ None }
 
     // No file changes, whatever the answer.
     ensures told { F.told files.new ≡ F.told files.old }

@@ -1,6 +1,5 @@
-use Rattle.std.proofs.Common.{arith, rules, sym, ◌∙◌, ap, ◌++◌, ◌+◌, ◌≡◌, ℕ, List, length, take, vec_len}
+use Rattle.std.proofs.Common.{arith, rules, ◌∙◌, ap, ◌++◌, ◌+◌, ◌≡◌, ℕ, List, length, take, vec_len}
 use Rattle.std.proofs.lemmas.List.{length-take}
-use Rattle.std.proofs.lemmas.Grind.{common_steps}
 use Rattle.pth_outside.proofs.Pieces.{whole_at_end, IsFront-more, front_of}
 use Rattle.pth_outside.proofs.whole.read_whole.Goals as goal
 
