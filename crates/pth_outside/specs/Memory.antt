@@ -1,12 +1,12 @@
 -- What files in memory hold, which of their calls fail, and how a call on them ends.
-use Rattle.std.specs.Prelude.{◌≡◌, ℕ, ◌-◌, ◌/◌, ◌==◌, ◌⊎◌, Bool, IsTrue, List, length, [], Option, Some, None, unwrap_or, refl, Result, IsErrOf, OnOk}
+use Rattle.std.specs.Prelude.{◌≡◌, ℕ, ◌-◌, ◌==◌, ◌⊎◌, Bool, IsTrue, List, length, [], Option, Some, None, unwrap_or, refl, Result, IsErrOf, OnOk}
 use Rattle.std.specs.List.{list_any}
 use Rattle.std.specs.Coded.{Coded, code_by, coded×, coded_ℕ, coded_list}
 use base.Stored.{coded_unit}
 use Rattle.std.specs.FinMap as map
 use Rattle.pth_outside.specs.declared.files.FileErr.{FileErr}
 use Rattle.pth_outside.specs.declared.files.FileErr.TheVariants.{Failed, NoMemory}
-use Rattle.pth_outside.specs.Files.{AtNames, FileMap, one_more}
+use Rattle.pth_outside.specs.Files.{AtNames, FileMap, put_at, one_more}
 
 -- the files, the names that were created, the numbers of the calls that fail, the most that a read gives, and both counts
 pub record Memory : Type 0 where
@@ -37,6 +37,14 @@ counted m = record m { calls = one_more m.calls }
 abbrev pub faulted : Memory → Memory
 faulted m = record m { calls = one_more m.calls; faults = one_more m.faults }
 
+-- with other files
+abbrev pub with_files : FileMap → Memory → Memory
+with_files files m = record m { files = files }
+
+-- with this name marked as created
+abbrev pub with_mark : List ℕ → Memory → Memory
+with_mark name m = record m { created = put_at m.created name (Some tt) }
+
 -- how many bytes a file has from a place on
 abbrev pub left_from : ℕ → Option (List ℕ) → ℕ
 left_from at bytes = length (unwrap_or bytes []) - at
@@ -46,7 +54,7 @@ abbrev pub MustFail : Memory → List ℕ → Type 0
 MustFail m name = IsTrue (is_listed m) ⊎ (map.get m.files name ≡ None)
 
 -- how a call on files ends: Failed only where it must fail, and what stands after each answer
-pub record Ends {T : Type 0} (must_fail : Type 0) (old new done undone : Memory) (result : Result T FileErr) : Type 0 where
+pub record Ends {T : Type 0} (must_fail : Type 0) (old done undone new : Memory) (result : Result T FileErr) : Type 0 where
   pub ok : OnOk result (new ≡ done)
   pub ok_only : OnOk result (¬ must_fail)
   pub failed : IsErrOf result Failed → new ≡ undone

@@ -35,7 +35,9 @@ pub trait Files {
     /// Reads from a place on, into the front of a buffer, and gives the count of bytes.
     fn read_at(&mut self, name: &str, at: u64, into: &mut [u8]) -> Result<usize, FileErr>
         ensures bound { IfOk result (λ count. count ≤ length into.old) }
-        ensures read { IfOk result (λ count. (bytes : List ℕ) → contents (told self.old) name.now ≡ Some bytes → IsRead bytes at into.old into.new count) }
+        ensures read { IfOk result (λ count. (bytes : List ℕ) →
+            contents (told self.old) name.now ≡ Some bytes →
+            IsRead bytes at into.old into.new count) }
         ensures there { OnOk result (IsThere (told self.old) name.now) }
         ensures kept { IsErrOf result FileErr.NoMemory → into.new ≡ into.old }
 
@@ -44,51 +46,66 @@ pub trait Files {
         ensures sure { sure self.new ≡ sure self.old }
 
         ensures later { faults self.old ≤ faults self.new }
-        ensures failed { IsErrOf result FileErr.Failed → Rose (faults self.old) (faults self.new) }
-        ensures missing { IsErrOf result FileErr.Failed → IsTrue (sure self.old) → contents (told self.old) name.now ≡ None };
+        ensures failed { IsErrOf result FileErr.Failed →
+            Rose (faults self.old) (faults self.new) }
+        ensures missing { IsErrOf result FileErr.Failed → IsTrue (sure self.old) →
+            contents (told self.old) name.now ≡ None };
 
     /// Makes an empty file, or empties the one that is there.
     fn create(&mut self, name: &str) -> Result<(), FileErr>
-        ensures told { OnOk result (told self.new ≡ option_map (created name.now) (told self.old)) }
+        ensures told { OnOk result
+            (told self.new ≡ option_map (created name.now) (told self.old)) }
         ensures err { OnErr result (told self.new ≡ told self.old) }
         ensures sure { sure self.new ≡ sure self.old }
 
         ensures later { faults self.old ≤ faults self.new }
-        ensures failed { IsErrOf result FileErr.Failed → Rose (faults self.old) (faults self.new) }
-        ensures never { IsErrOf result FileErr.Failed → IsTrue (sure self.old) → told self.old ≡ None };
+        ensures failed { IsErrOf result FileErr.Failed →
+            Rose (faults self.old) (faults self.new) }
+        ensures never { IsErrOf result FileErr.Failed → IsTrue (sure self.old) →
+            told self.old ≡ None };
 
     /// Puts a piece at the end of a file. A failure may leave the front of the piece there.
     fn append(&mut self, name: &str, piece: &[u8]) -> Result<(), FileErr>
-        ensures told { OnOk result (told self.new ≡ option_map (appended name.now piece.now) (told self.old)) }
+        ensures told { OnOk result
+            (told self.new ≡ option_map (appended name.now piece.now) (told self.old)) }
         ensures there { OnOk result (IsThere (told self.old) name.now) }
-        ensures front { IsErrOf result FileErr.Failed → AppendsFront name.now piece.now (told self.old) (told self.new) }
+        ensures front { IsErrOf result FileErr.Failed →
+            AppendsFront name.now piece.now (told self.old) (told self.new) }
         ensures kept { IsErrOf result FileErr.NoMemory → told self.new ≡ told self.old }
         ensures sure { sure self.new ≡ sure self.old }
 
         ensures later { faults self.old ≤ faults self.new }
-        ensures failed { IsErrOf result FileErr.Failed → Rose (faults self.old) (faults self.new) }
-        ensures missing { IsErrOf result FileErr.Failed → IsTrue (sure self.old) → contents (told self.old) name.now ≡ None };
+        ensures failed { IsErrOf result FileErr.Failed →
+            Rose (faults self.old) (faults self.new) }
+        ensures missing { IsErrOf result FileErr.Failed → IsTrue (sure self.old) →
+            contents (told self.old) name.now ≡ None };
 
     /// Gives a file another name, in place of the file that has that name.
     fn publish(&mut self, from: &str, to: &str) -> Result<(), FileErr>
         requires { from.now ≢ to.now }
-        ensures told { OnOk result (told self.new ≡ option_map (published from.now to.now) (told self.old)) }
+        ensures told { OnOk result
+            (told self.new ≡ option_map (published from.now to.now) (told self.old)) }
         ensures there { OnOk result (IsThere (told self.old) from.now) }
         ensures err { OnErr result (told self.new ≡ told self.old) }
         ensures sure { sure self.new ≡ sure self.old }
 
         ensures later { faults self.old ≤ faults self.new }
-        ensures failed { IsErrOf result FileErr.Failed → Rose (faults self.old) (faults self.new) }
-        ensures missing { IsErrOf result FileErr.Failed → IsTrue (sure self.old) → contents (told self.old) from.now ≡ None };
+        ensures failed { IsErrOf result FileErr.Failed →
+            Rose (faults self.old) (faults self.new) }
+        ensures missing { IsErrOf result FileErr.Failed → IsTrue (sure self.old) →
+            contents (told self.old) from.now ≡ None };
 
     /// Takes a file away.
     fn remove(&mut self, name: &str) -> Result<(), FileErr>
-        ensures told { OnOk result (told self.new ≡ option_map (removed name.now) (told self.old)) }
+        ensures told { OnOk result
+            (told self.new ≡ option_map (removed name.now) (told self.old)) }
         ensures there { OnOk result (IsThere (told self.old) name.now) }
         ensures err { OnErr result (told self.new ≡ told self.old) }
         ensures sure { sure self.new ≡ sure self.old }
 
         ensures later { faults self.old ≤ faults self.new }
-        ensures failed { IsErrOf result FileErr.Failed → Rose (faults self.old) (faults self.new) }
-        ensures missing { IsErrOf result FileErr.Failed → IsTrue (sure self.old) → contents (told self.old) name.now ≡ None };
+        ensures failed { IsErrOf result FileErr.Failed →
+            Rose (faults self.old) (faults self.new) }
+        ensures missing { IsErrOf result FileErr.Failed → IsTrue (sure self.old) →
+            contents (told self.old) name.now ≡ None };
 }

@@ -12,9 +12,8 @@ pub use files::{FileErr, Files};
 pub use memory_files::MemFiles;
 pub use memory_sink::MemSink;
 pub use sink::{Sink, SinkErr};
-pub use whole::{WholeErr, read_whole};
-
 use std::alloc::AllocError;
+pub use whole::{WholeErr, read_whole};
 
 /// The byte between two keys of a key file.
 pub const LINE_FEED: u8 = b'\n';

@@ -1,6 +1,6 @@
 // A sink in memory, of which chosen writes fail.
-ghost use Rattle.std.specs.Prelude.{◌≡◌, ◌==◌, Some, List, [], ℕ};
-ghost use Rattle.pth_outside.specs.Files.{one_more};
+ghost use Rattle.std.specs.Prelude.{◌≡◌, ◌≤◌, Some, []};
+ghost use Rattle.pth_outside.specs.MemorySink.{WriteEnds};
 
 use crate::{Sink, SinkErr};
 use std::alloc::Global;
@@ -20,7 +20,12 @@ impl Model for MemSink {
 
     ghost Value = { WrittenSink };
 
-    ghost view = { λ s. record { bytes = s.bytes.items; fails = s.fails.items; calls = s.calls; faults = s.faults } };
+    ghost view = { λ s. record {
+      bytes = s.bytes.items;
+      fails = s.fails.items;
+      calls = s.calls;
+      faults = s.faults;
+    } };
 }
 
 impl MemSink {
@@ -49,7 +54,10 @@ impl Sink for MemSink {
 
     ghost faults = { λ s. s.faults };
 
-    fn write(&mut self, piece: &[u8]) -> Result<(), SinkErr> {
+    fn write(&mut self, piece: &[u8]) -> Result<(), SinkErr>
+        ensures ends { WriteEnds piece.now self.old self.new result }
+        ensures later { self.old.faults ≤ self.new.faults }
+    {
         let fails = self.fails.contains(&self.calls);
         self.calls = self.calls.saturating_add(1);
         let kept = if fails { piece.len() / 2 } else { piece.len() };
@@ -58,6 +66,23 @@ impl Sink for MemSink {
             self.faults = self.faults.saturating_add(1);
             return Err(SinkErr::Failed);
         }
+        Ok(())
+    }
+}
+
+#[cfg(test)]
+mod tests {
+    use super::*;
+    use std::test::Fail;
+
+    #[test]
+    fn a_failed_write_leaves_half(rt: HostRuntime) -> Result<(), Fail> {
+        let alloc = rt.alloc();
+        let mut sink = MemSink::new(alloc, vec![in alloc; 1u64]?);
+        assert_eq!(rt; sink.write(b"ab"), Ok(()));
+        assert_eq!(rt; sink.write(b"cdefg"), Err(SinkErr::Failed));
+        assert_eq!(rt; sink.write(b"h"), Ok(()));
+        assert_eq!(rt; sink.bytes(), b"abcdh".as_slice());
         Ok(())
     }
 }

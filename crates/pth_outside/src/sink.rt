@@ -33,9 +33,11 @@ pub trait Sink {
     /// Writes the whole piece. A failure may leave the front of it written.
     fn write(&mut self, piece: &[u8]) -> Result<(), SinkErr>
         ensures ok { OnOk result (told self.new ≡ written piece.now (told self.old)) }
-        ensures front { IsErrOf result SinkErr.Failed → WritesFront piece.now (told self.old) (told self.new) }
+        ensures front { IsErrOf result SinkErr.Failed →
+            WritesFront piece.now (told self.old) (told self.new) }
         ensures kept { IsErrOf result SinkErr.NoMemory → told self.new ≡ told self.old }
 
         ensures later { faults self.old ≤ faults self.new }
-        ensures failed { IsErrOf result SinkErr.Failed → Rose (faults self.old) (faults self.new) };
+        ensures failed { IsErrOf result SinkErr.Failed →
+            Rose (faults self.old) (faults self.new) };
 }

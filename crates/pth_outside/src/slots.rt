@@ -28,11 +28,7 @@ pub(crate) fn find(slots: &[Slot], name: &str) -> Option<usize>
 }
 
 // The place of the first slot with the name, which is made if there is none.
-pub(crate) fn slot_of(
-    alloc: Global,
-    slots: &mut Vec<Slot>,
-    name: &str,
-) -> Result<usize, AllocError>
+pub(crate) fn slot_of(alloc: Global, slots: &mut Vec<Slot>, name: &str) -> Result<usize, AllocError>
     ensures found { IfOk result (λ i. IsSlotOf slots.new.items name.now i) }
     ensures within { IfOk result (λ i. i < vec_len slots.new) }
     ensures files { files_of slots.new.items ≡ files_of slots.old.items }
@@ -77,7 +73,9 @@ pub(crate) fn put_bytes(
     name: &str,
     bytes: Vec<u8>,
 ) -> Result<(), AllocError>
-    ensures ok { OnOk result (files_of slots.new.items ≡ put_at (files_of slots.old.items) name.now (Some bytes.items)) }
+    ensures ok { OnOk result
+        (files_of slots.new.items ≡
+        put_at (files_of slots.old.items) name.now (Some bytes.items)) }
     ensures err { OnErr result (files_of slots.new.items ≡ files_of slots.old.items) }
     ensures marks { marks_of slots.new.items ≡ marks_of slots.old.items }
 {
@@ -88,13 +86,11 @@ pub(crate) fn put_bytes(
 }
 
 // Puts an empty file there, and marks it as created.
-pub(crate) fn make_empty(
-    alloc: Global,
-    slots: &mut Vec<Slot>,
-    name: &str,
-) -> Result<(), AllocError>
-    ensures ok { OnOk result (files_of slots.new.items ≡ created name.now (files_of slots.old.items)) }
-    ensures marked { OnOk result (marks_of slots.new.items ≡ put_at (marks_of slots.old.items) name.now (Some tt)) }
+pub(crate) fn make_empty(alloc: Global, slots: &mut Vec<Slot>, name: &str) -> Result<(), AllocError>
+    ensures ok { OnOk result
+        (files_of slots.new.items ≡ created name.now (files_of slots.old.items)) }
+    ensures marked { OnOk result
+        (marks_of slots.new.items ≡ put_at (marks_of slots.old.items) name.now (Some tt)) }
     ensures err { OnErr result (files_of slots.new.items ≡ files_of slots.old.items) }
     ensures marks { OnErr result (marks_of slots.new.items ≡ marks_of slots.old.items) }
 {
@@ -106,13 +102,11 @@ pub(crate) fn make_empty(
 }
 
 // Puts a piece at the end of a file, and tells whether the file is there.
-pub(crate) fn extend(
-    slots: &mut [Slot],
-    name: &str,
-    piece: &[u8],
-) -> Result<bool, AllocError>
-    ensures there { IfOk result (λ there. there ≡ map.contains_key (files_of slots.old) name.now) }
-    ensures ok { OnOk result (files_of slots.new ≡ appended name.now piece.now (files_of slots.old)) }
+pub(crate) fn extend(slots: &mut [Slot], name: &str, piece: &[u8]) -> Result<bool, AllocError>
+    ensures there { IfOk result (λ there.
+        there ≡ map.contains_key (files_of slots.old) name.now) }
+    ensures ok { OnOk result
+        (files_of slots.new ≡ appended name.now piece.now (files_of slots.old)) }
     ensures err { OnErr result (files_of slots.new ≡ files_of slots.old) }
     ensures marks { marks_of slots.new ≡ marks_of slots.old }
 {
@@ -135,7 +129,8 @@ pub(crate) fn take_bytes(slots: &mut [Slot], name: &str) -> Option<Vec<u8>>
     ensures files { files_of slots.new ≡ removed name.now (files_of slots.old) }
     ensures none { IfNone result (files_of slots.new ≡ files_of slots.old) }
     ensures marks { marks_of slots.new ≡ marks_of slots.old }
-    ensures places { (other : List ℕ) (i : ℕ) → IsSlotOf slots.old other i → IsSlotOf slots.new other i }
+    ensures places { (other : List ℕ) (i : ℕ) →
+        IsSlotOf slots.old other i → IsSlotOf slots.new other i }
 {
     match find(slots, name) {
         Some(place) => {
@@ -154,8 +149,11 @@ pub(crate) fn rename(
     to: &str,
 ) -> Result<bool, AllocError>
     requires { from.now ≢ to.now }
-    ensures there { IfOk result (λ there. there ≡ map.contains_key (files_of slots.old.items) from.now) }
-    ensures ok { IfOk result (λ there. files_of slots.new.items ≡ (if there then published from.now to.now (files_of slots.old.items) else files_of slots.old.items)) }
+    ensures there { IfOk result (λ there.
+        there ≡ map.contains_key (files_of slots.old.items) from.now) }
+    ensures ok { IfOk result (λ there.
+        let before = files_of slots.old.items in
+        files_of slots.new.items ≡ (if there then published from.now to.now before else before)) }
     ensures err { OnErr result (files_of slots.new.items ≡ files_of slots.old.items) }
     ensures marks { marks_of slots.new.items ≡ marks_of slots.old.items }
 {

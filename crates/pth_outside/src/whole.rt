@@ -43,9 +43,12 @@ pub fn read_whole<F: Files>(
 ) -> Result<Vec<u8>, WholeErr>
     ensures ok { IfOk result (λ bytes. HasBytes (F.told files.old) name.now bytes.items) }
     ensures bound { IfOk result (λ bytes. vec_len bytes ≤ most) }
-    ensures too_large { IsErrOf result WholeErr.TooLarge → IsLonger (F.told files.old) name.now most }
-    ensures fault { IsErrOf result WholeErr.Fault → Rose (F.faults files.old) (F.faults files.new) }
-    ensures missing { IsErrOf result WholeErr.Fault → IsTrue (F.sure files.old) → contents (F.told files.old) name.now ≡ None }
+    ensures too_large { IsErrOf result WholeErr.TooLarge →
+        IsLonger (F.told files.old) name.now most }
+    ensures fault { IsErrOf result WholeErr.Fault →
+        Rose (F.faults files.old) (F.faults files.new) }
+    ensures missing { IsErrOf result WholeErr.Fault → IsTrue (F.sure files.old) →
+        contents (F.told files.old) name.now ≡ None }
 
     // No file changes, whatever the answer.
     ensures told { F.told files.new ≡ F.told files.old }
@@ -67,5 +70,57 @@ pub fn read_whole<F: Files>(
             return Err(WholeErr::TooLarge);
         }
         bytes.extend_from_slice(&piece[..count])?;
+    }
+}
+
+#[cfg(test)]
+mod tests {
+    use super::*;
+    use crate::MemFiles;
+    use std::test::Fail;
+
+    #[test]
+    fn a_file_is_read_up_to_the_limit(rt: HostRuntime) -> Result<(), Fail> {
+        let alloc = rt.alloc();
+        for (text, most, read) in [
+            (b"abcd".as_slice(), 4, true),
+            (b"abcd", 3, false),
+            (b"", 0, true),
+            (b"a", 0, false),
+        ] {
+            let mut files = MemFiles::new(alloc, Vec::new(alloc), 3);
+            files.put("f", text).ok().ok_or("memory")?;
+            match read_whole(alloc, &mut files, "f", most) {
+                Ok(bytes) => {
+                    assert!(rt; read, "{text:?} with most {most}");
+                    assert_eq!(rt; bytes.as_slice(), text);
+                }
+                Err(err) => {
+                    assert!(rt; !read, "{text:?} with most {most}");
+                    assert_eq!(rt; err, WholeErr::TooLarge);
+                }
+            }
+        }
+        Ok(())
+    }
+
+    // Three reads take the file, and the fourth would be one too many to fail.
+    #[test]
+    fn each_failing_read_is_a_fault(rt: HostRuntime) -> Result<(), Fail> {
+        let alloc = rt.alloc();
+        for (number, fault) in [(0u64, true), (1, true), (2, true), (3, false)] {
+            let mut files = MemFiles::new(alloc, vec![in alloc; number]?, 2);
+            files.put("f", b"abcd").ok().ok_or("memory")?;
+            let err = read_whole(alloc, &mut files, "f", 4).err();
+            assert_eq!(rt;
+                err,
+                if fault { Some(WholeErr::Fault) } else { None },
+                "call {number}"
+            );
+        }
+        let mut files = MemFiles::new(alloc, Vec::new(alloc), 2);
+        let missing = read_whole(alloc, &mut files, "f", 4).err();
+        assert_eq!(rt; missing, Some(WholeErr::Fault));
+        Ok(())
     }
 }

@@ -1,6 +1,5 @@
-use Rattle.std.proofs.Common.{refl, sym, ap, ◌∙◌, ◌++◌, ℕ, List, is_some, Some, None, option_map}
+use Rattle.std.proofs.Common.{refl, sym, ap, ◌∙◌, ◌++◌, ℕ, List, is_some, Some, option_map}
 use Rattle.pth_outside.specs.Slots.{bytes_of, mark_of}
-use Rattle.pth_outside.specs.Files.{put_at}
 use Rattle.pth_outside.proofs.SlotLemmas.{name_of_at, held_at, held_absent, held_set_to, held_set_same, appended_absent, on_err}
 use Rattle.pth_outside.proofs.slots.extend.Goals as goal
 
@@ -13,7 +12,7 @@ returns-in_default-clause-ok c = sym (appended_absent _ c.args.name.now c.args.p
 pub returns-in_err-extend_from_slice-in-Some-bytes-clause-err : goal.returns-in_err-extend_from_slice-in-Some-bytes-clause-err
 returns-in_err-extend_from_slice-in-Some-bytes-clause-err c =
     on_err c.from_residual.result
-      (held_set_same bytes_of c.args.slots.now c.args.name.now c.in-Some.place c.index-slots-place.result _ c.in-Some.ensures.found c.index-slots-place.is (name_of_at c.args.slots.now c.args.name.now c.in-Some.place c.index-slots-place.result c.in-Some.ensures.found c.index-slots-place.is) (ap Some c.in_err-extend_from_slice-in-Some-bytes.ensures.items ∙ sym (ap (option_map (λ v. v.items)) c.in-Some-bytes.is)))
+    (held_set_same bytes_of c.args.slots.now c.args.name.now c.in-Some.place c.index-slots-place.result _ c.in-Some.ensures.found c.index-slots-place.is (name_of_at c.args.slots.now c.args.name.now c.in-Some.place c.index-slots-place.result c.in-Some.ensures.found c.index-slots-place.is) (ap Some c.in_err-extend_from_slice-in-Some-bytes.ensures.items ∙ sym (ap (option_map (λ v. v.items)) c.in-Some-bytes.is)))
 
 pub returns-in_err-extend_from_slice-in-Some-bytes-clause-marks : goal.returns-in_err-extend_from_slice-in-Some-bytes-clause-marks
 returns-in_err-extend_from_slice-in-Some-bytes-clause-marks c =
@@ -26,8 +25,8 @@ returns-in_ok-extend_from_slice-in-Some-bytes-clause-there c =
 pub returns-in_ok-extend_from_slice-in-Some-bytes-clause-ok : goal.returns-in_ok-extend_from_slice-in-Some-bytes-clause-ok
 returns-in_ok-extend_from_slice-in-Some-bytes-clause-ok c =
     held_set_to bytes_of c.args.slots.now c.args.name.now c.in-Some.place _ _ c.in-Some.ensures.found (name_of_at c.args.slots.now c.args.name.now c.in-Some.place c.index-slots-place.result c.in-Some.ensures.found c.index-slots-place.is)
-      (ap Some c.in_ok-extend_from_slice-in-Some-bytes.ensures.items
-       ∙ sym (ap (option_map (λ (bytes : List ℕ). bytes ++ c.args.piece.now)) (held_at bytes_of c.args.slots.now c.args.name.now c.in-Some.place c.index-slots-place.result c.in-Some.ensures.found c.index-slots-place.is ∙ ap (option_map (λ v. v.items)) c.in-Some-bytes.is)))
+    (ap Some c.in_ok-extend_from_slice-in-Some-bytes.ensures.items
+    ∙ sym (ap (option_map (λ (bytes : List ℕ). bytes ++ c.args.piece.now)) (held_at bytes_of c.args.slots.now c.args.name.now c.in-Some.place c.index-slots-place.result c.in-Some.ensures.found c.index-slots-place.is ∙ ap (option_map (λ v. v.items)) c.in-Some-bytes.is)))
 
 pub returns-in_ok-extend_from_slice-in-Some-bytes-clause-marks : goal.returns-in_ok-extend_from_slice-in-Some-bytes-clause-marks
 returns-in_ok-extend_from_slice-in-Some-bytes-clause-marks c =

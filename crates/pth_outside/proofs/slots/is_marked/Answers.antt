@@ -1,4 +1,4 @@
-use Rattle.std.proofs.Common.{Bool, true, false, refl, sym, ap, ◌≡◌, ◌∙◌, Option, Some, None, cond, is_some}
+use Rattle.std.proofs.Common.{Bool, true, false, refl, sym, ap, ◌≡◌, ◌∙◌, Some, None, cond, is_some}
 use Rattle.pth_outside.specs.Slots.{mark_of}
 use Rattle.pth_outside.proofs.SlotLemmas.{held_at, held_absent}
 use Rattle.pth_outside.proofs.slots.is_marked.Goals as goal

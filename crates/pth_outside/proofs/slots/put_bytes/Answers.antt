@@ -1,6 +1,5 @@
-use Rattle.std.proofs.Common.{refl, sym, ap, ◌∙◌, ◌++◌, ℕ, List, is_some, Some, None, option_map}
+use Rattle.std.proofs.Common.{refl, ap, ◌∙◌, Some}
 use Rattle.pth_outside.specs.Slots.{bytes_of, mark_of}
-use Rattle.pth_outside.specs.Files.{put_at}
 use Rattle.pth_outside.proofs.SlotLemmas.{name_of_found, held_set_to, held_set_same, moved}
 use Rattle.pth_outside.proofs.slots.put_bytes.Goals as goal
 

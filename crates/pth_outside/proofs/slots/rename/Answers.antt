@@ -10,7 +10,7 @@ returns-in-Some-clause-ok c =
     let is = rw whole at c.index_mut-slot.ensures.value in
     let there = c.take_bytes.ensures.places c.args.to.now c.in_ok-place.place (rw c.deref_mut.ensures.value c.in_ok-place.ensures.found) in
     rw whole (files_of-published c.args.slots.now.items c.deref_mut.result.now c.take_bytes.new.slots c.args.from.now c.args.to.now c.in-Some.bytes.items c.in_ok-place.place c.index_mut-slot.result.now _
-      c.requires (ap files_of c.deref_mut.ensures.value ∙ c.in_ok-place.ensures.files) c.in-Some.ensures.bytes c.take_bytes.ensures.files there is refl refl)
+    c.requires (ap files_of c.deref_mut.ensures.value ∙ c.in_ok-place.ensures.files) c.in-Some.ensures.bytes c.take_bytes.ensures.files there is refl refl)
 
 pub returns-in-Some-clause-marks : goal.returns-in-Some-clause-marks
 returns-in-Some-clause-marks c =
@@ -18,7 +18,7 @@ returns-in-Some-clause-marks c =
     let is = rw whole at c.index_mut-slot.ensures.value in
     let there = c.take_bytes.ensures.places c.args.to.now c.in_ok-place.place (rw c.deref_mut.ensures.value c.in_ok-place.ensures.found) in
     rw whole (held_set_same mark_of c.take_bytes.new.slots c.args.to.now c.in_ok-place.place c.index_mut-slot.result.now _ there is (name_of_found _ _ _ _ there is) (ap mark_of is)
-      ∙ c.take_bytes.ensures.marks ∙ ap marks_of c.deref_mut.ensures.value ∙ c.in_ok-place.ensures.created)
+    ∙ c.take_bytes.ensures.marks ∙ ap marks_of c.deref_mut.ensures.value ∙ c.in_ok-place.ensures.created)
 
 pub returns-in-None-clause-ok : goal.returns-in-None-clause-ok
 returns-in-None-clause-ok c =
