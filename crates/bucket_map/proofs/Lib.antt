@@ -6,3 +6,7 @@ pub mod Ranks
 pub mod Members
 pub mod OrderLaws
 pub mod Arranged
+pub mod Later
+pub mod Neighbours
+pub mod LeastClash
+pub mod Moved

@@ -1,3 +1,4 @@
 pub mod Grouping
 pub mod Ranking
 pub mod Layout
+pub mod Clash

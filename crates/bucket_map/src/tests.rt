@@ -68,3 +68,14 @@ fn the_larger_bucket_comes_first(rt: HostRuntime) -> Result<(), Fail> {
     }
     Ok(())
 }
+
+#[test]
+fn the_least_repeated_ordinal_is_found(rt: HostRuntime) {
+    let mut records = [(1, 1, 0), (2, 2, 1), (2, 2, 2), (1, 1, 3), (2, 2, 4)].map(|(
+        a,
+        b,
+        ordinal,
+    )| Record { a, b, ordinal });
+    assert_eq!(rt; least_clash(&mut records), Some((1, 2)));
+    assert_eq!(rt; least_clash(&mut records[..1]), None);
+}
