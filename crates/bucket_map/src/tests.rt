@@ -1,0 +1,70 @@
+use super::*;
+use std::test::Fail;
+
+#[test]
+fn sizes_are_those_of_an_independent_program(rt: HostRuntime) {
+    let cases: [(u64, u32, u32, u64, u64, u64); 14] = [
+        (0, 98, 700, 0, 0, 0),
+        (1, 98, 700, 3, 7, 2),
+        (1, 100, 700, 2, 7, 2),
+        (2, 100, 100, 3, 2, 0),
+        (3, 100, 1500, 3, 45, 13),
+        (31, 97, 700, 33, 55, 16),
+        (63, 50, 333, 126, 42, 12),
+        (1000, 98, 700, 1021, 778, 233),
+        (1003, 98, 700, 1025, 781, 234),
+        (67_108_864, 50, 700, 134_217_729, 18_067_772, 5_420_331),
+        (67_108_864, 100, 1500, 67_108_865, 38_716_653, 11_614_995),
+        (67_108_863, 98, 100, 68_478_432, 2_684_355, 805_306),
+        (980, 98, 700, 1000, 763, 228),
+        (65536, 100, 700, 65537, 28672, 8601),
+    ];
+    for (n, alpha, c, size, buckets, front) in cases {
+        assert!(rt; n <= MAX_KEYS && 50 <= alpha && alpha <= 100 && 100 <= c && c <= 1500);
+        assert_eq!(rt; table_size(n, alpha), size, "size of {n}");
+        let m = bucket_count(n, c);
+        assert_eq!(rt; m, buckets, "buckets of {n}");
+        assert_eq!(rt; front_count(m), front, "front buckets of {n}");
+    }
+}
+
+#[test]
+fn a_border_hash_is_a_back_hash(rt: HostRuntime) {
+    let border = pthash::FRONT_HASHES;
+    assert_eq!(rt; bucket_of(border - 1, 7), 0);
+    assert_eq!(rt; bucket_of(border, 7), 6);
+    assert_eq!(rt; bucket_of(5, 3), 2);
+    assert_eq!(rt; partition_of(u64::MAX, 0, 8), 7);
+    assert_eq!(rt; partition_of(12345, 12345, 8), 0);
+}
+
+#[test]
+fn the_larger_bucket_comes_first(rt: HostRuntime) -> Result<(), Fail> {
+    let border = pthash::FRONT_HASHES;
+    let hashes = [
+        0,
+        1,
+        border + 1,
+        border + 4,
+        border + 7,
+        border + 2,
+        border + 5,
+    ];
+    let mut records = Vec::new(rt.alloc());
+    for (i, a) in hashes.iter().enumerate() {
+        let ordinal = i as u64;
+        let b = 10 + ordinal;
+        records.push(Record { a: *a, b, ordinal })?;
+    }
+    let buckets = ordered_buckets(rt.alloc(), &records, 4)?;
+    let wanted: [(u64, &[u64]); 3] = [(2, &[12, 13, 14]), (0, &[10, 11]), (3, &[15, 16])];
+    assert_eq!(rt; buckets.len(), 3);
+    assert_eq!(rt; buckets.largest(), 3);
+    for (rank, (number, members)) in wanted.iter().enumerate() {
+        let rank = rank as u64;
+        assert!(rt; rank < buckets.len());
+        assert_eq!(rt; buckets.bucket(rank), *number);
+        assert_eq!(rt; buckets.members(rank), *members);
+    }
+    Ok(())
+}
