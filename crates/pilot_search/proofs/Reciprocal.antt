@@ -1,5 +1,5 @@
 -- The quotient by a reciprocal of 64 bits.
-use Rattle.std.proofs.Common.{◌≡◌, ℕ, ◌+◌, ◌*◌, ◌-◌, ◌/◌, ◌%◌, ◌<◌, ◌≤◌, refl, sym, ap, ◌∙◌, arith}
+use Rattle.std.proofs.Common.{◌≡◌, ℕ, ◌+◌, ◌*◌, ◌-◌, ◌/◌, ◌%◌, ◌<◌, ◌≤◌, sym, ap, ◌∙◌, arith}
 use Rattle.std.proofs.Math.Nat.{div-add-mod, mod-lt, mul-le-mul_left, mod-eq_of_lt, mul_comm, add-mul-mod_self_left}
 
 -- the quotient q of x * v by 2 ^ 64, where v is the reciprocal of n: n * q is at most x, and above x - 2 * n

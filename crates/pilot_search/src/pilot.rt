@@ -49,7 +49,8 @@ pub(crate) fn find_pilot(
     requires room { length members.now ≤ length positions.old }
     requires divisor { size.now.value ≡ occupied.now.size }
     requires size { occupied.now.size ≡ plan.now.size }
-    requires no_lower { FailsBelow (pilot_fits plan.now (contains occupied.now.taken) members.now) first }
+    requires no_lower { let fit = pilot_fits plan.now (contains occupied.now.taken) in
+        FailsBelow (fit members.now) first }
     ensures pilot { result ≡ pilot_of plan.now (contains occupied.now.taken) members.now }
     ensures positions { let places = positions_of plan.now members.now in
         IfSome result (λ k. take (length members.now) positions.new ≡ places k) }

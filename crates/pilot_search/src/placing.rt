@@ -90,7 +90,8 @@ fn place_ranks(
     requires start { start ≤ length plan.now.buckets }
     requires room { most_members plan.now.buckets ≤ length positions.old }
     requires so_far { IsSearchedTo plan.now start pilots.old occupied.old }
-    ensures placed { OnOk result (IsSearchedTo plan.now (length plan.now.buckets) pilots.new occupied.new) }
+    ensures placed { let ranks = length plan.now.buckets in
+        OnOk result (IsSearchedTo plan.now ranks pilots.new occupied.new) }
     ensures stuck { IfErr result (λ stuck. IsStuckAt plan.now stuck) }
 {
     let size = Divisor::new(plan.size());

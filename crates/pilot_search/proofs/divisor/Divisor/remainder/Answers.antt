@@ -1,4 +1,4 @@
-use Rattle.std.proofs.Common.{◌≤◌, ◌<◌, ℕ, ◌+◌, ◌*◌, ◌/◌, arith}
+use Rattle.std.proofs.Common.{◌*◌, ◌/◌, arith}
 use Rattle.pilot_search.proofs.Reciprocal.{quotient_near, rest_below, rest_above}
 use Rattle.pilot_search.proofs.divisor.Divisor.remainder.Goals as goal
 
