@@ -1,11 +1,11 @@
 -- How a search goes from one bucket to the next.
-use Rattle.std.proofs.Common.{◌≡◌, ◌≢◌, ℕ, zero, suc, ◌+◌, ◌<◌, ◌≤◌, List, [], ◌∷◌, ◌++◌, length, take, get_or, Some, None, Ok, Err, refl, sym, ap, ◌∙◌, subst, add-one, arith, ⊎_elim}
+use Rattle.std.proofs.Common.{◌≡◌, ◌≢◌, ℕ, suc, ◌+◌, ◌<◌, ◌≤◌, List, [], length, take, Some, None, Ok, Err, sym, ap, ◌∙◌, add-one, arith, ⊎_elim}
 use Rattle.std.specs.Prelude.{slice_set, slice_index, replicate}
 use Rattle.std.proofs.lemmas.Bool.{cases_lt}
 use Rattle.std.proofs.lemmas.List.{take_more_set, take_all, length-set, length-replicate, get_or-set_other, get_or-replicate, get_or_past}
 use Rattle.std.specs.FinSet.{empty, contains, union, from_list}
 use Rattle.pthash.specs.Order.{bucket_at}
-use Rattle.pthash.specs.Search.{SearchPlan, SearchState, positions_of, pilot_of, with_pilot, after_bucket, prefix_of, search_of}
+use Rattle.pthash.specs.Search.{SearchPlan, positions_of, pilot_of, with_pilot, after_bucket, prefix_of, search_of}
 use Rattle.pthash.specs.SearchLaws.{stuck_stays}
 use Rattle.pilot_search.specs.Table.{Table}
 use Rattle.pilot_search.specs.Outcome.{IsSearchedTo}

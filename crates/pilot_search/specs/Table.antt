@@ -1,5 +1,5 @@
 -- The table of positions, of which some are taken.
-use Rattle.std.specs.Prelude.{◌≡◌, ℕ, ◌%◌, Bool, false, List, length, map, filter, slice_index_or, bit_xor, refl}
+use Rattle.std.specs.Prelude.{ℕ, ◌%◌, Bool, false, List, length, map, filter, slice_index_or, bit_xor, refl}
 use Rattle.std.specs.Coded.{Coded, code_by, coded×, coded_ℕ}
 use Rattle.std.specs.FinSet as set
 use Rattle.pthash.specs.Order.{numbers_below}

@@ -31,8 +31,8 @@ impl Model for Occupancy {
 }
 
 impl Occupancy {
-    /// A table of this size with no position taken.
-    pub fn new(alloc: Global, size: u64) -> Result<Self, NoMemory>
+    // A table of this size with no position taken.
+    pub(crate) fn new(alloc: Global, size: u64) -> Result<Self, NoMemory>
         ensures size { IfOk result (λ table. table.size ≡ size) }
         ensures taken { IfOk result (λ table. table.taken ≡ set.empty) }
     {

@@ -7,22 +7,28 @@ ghost use Rattle.pthash.specs.Search.{fits, pilot_fits, pilot_of, positions_of};
 ghost use Rattle.pthash.specs.Least.{FailsBelow};
 ghost use Rattle.pilot_search.specs.Table.{positions_under};
 
+use crate::divisor::Divisor;
 use crate::occupancy::Occupancy;
 use crate::plan::Plan;
 use murmur64::pilot_hash;
 
 // Whether a pilot of this hash fits; then `positions` begins with the members' positions.
-fn is_fit(members: &[u64], hash: u64, occupied: &Occupancy, positions: &mut [u64]) -> bool
+fn is_fit(
+    members: &[u64],
+    hash: u64,
+    size: &Divisor,
+    occupied: &Occupancy,
+    positions: &mut [u64],
+) -> bool
     requires room { length members.now ≤ length positions.old }
-    requires size { 0 < occupied.now.size }
+    requires size { size.now.value ≡ occupied.now.size }
     ensures fits { let places = positions_under hash occupied.now.size members.now in
         result ≡ fits (contains occupied.now.taken) places }
     ensures positions { let places = positions_under hash occupied.now.size members.now in
         IsTrue result → take (length members.now) positions.new ≡ places }
 {
-    let size = occupied.size();
     for (i, member) in members.iter().enumerate() {
-        let position = (*member ^ hash) % size;
+        let position = size.remainder(*member ^ hash);
         if occupied.contains(position) || positions[..i].contains(&position) {
             return false;
         }
@@ -36,19 +42,22 @@ pub(crate) fn find_pilot(
     plan: &Plan,
     members: &[u64],
     first: u64,
+    size: &Divisor,
     occupied: &Occupancy,
     positions: &mut [u64],
 ) -> Option<u64>
     requires room { length members.now ≤ length positions.old }
+    requires divisor { size.now.value ≡ occupied.now.size }
     requires size { occupied.now.size ≡ plan.now.size }
-    requires no_lower { FailsBelow (pilot_fits plan.now (contains occupied.now.taken) members.now) first }
+    requires no_lower { let fit = pilot_fits plan.now (contains occupied.now.taken) in
+        FailsBelow (fit members.now) first }
     ensures pilot { result ≡ pilot_of plan.now (contains occupied.now.taken) members.now }
     ensures positions { let places = positions_of plan.now members.now in
         IfSome result (λ k. take (length members.now) positions.new ≡ places k) }
 {
     let seed = plan.seed();
     for pilot in first..plan.limit() {
-        if is_fit(members, pilot_hash(pilot, seed), occupied, positions) {
+        if is_fit(members, pilot_hash(pilot, seed), size, occupied, positions) {
             return Some(pilot);
         }
     }

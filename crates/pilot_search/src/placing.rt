@@ -7,6 +7,7 @@ ghost use Rattle.pthash.specs.Search.{fits, pilot_fits};
 ghost use Rattle.pthash.specs.Least.{FailsBelow};
 ghost use Rattle.pilot_search.specs.Outcome.{IsSearchedTo, IsPlacedSoFar, IsPlaced, IsStuckAt};
 
+use crate::divisor::Divisor;
 use crate::occupancy::Occupancy;
 use crate::pilot::find_pilot;
 use crate::plan::Plan;
@@ -50,6 +51,7 @@ fn place_bucket(
     plan: &Plan,
     rank: u64,
     first: u64,
+    size: &Divisor,
     pilots: &mut [u64],
     occupied: &mut Occupancy,
     positions: &mut [u64],
@@ -57,13 +59,14 @@ fn place_bucket(
     requires rank { rank < length plan.now.buckets }
     requires room { most_members plan.now.buckets ≤ length positions.old }
     requires so_far { IsSearchedTo plan.now rank pilots.old occupied.old }
+    requires divisor { size.now.value ≡ plan.now.size }
     requires no_lower { let members = (bucket_at plan.now.buckets rank).members in
         FailsBelow (pilot_fits plan.now (set.contains occupied.old.taken) members) first }
     ensures placed { OnOk result (IsSearchedTo plan.now (rank + 1) pilots.new occupied.new) }
     ensures stuck { IfErr result (λ stuck. IsStuckAt plan.now stuck) }
 {
     let members = plan.members(rank);
-    match find_pilot(plan, members, first, occupied, positions) {
+    match find_pilot(plan, members, first, size, occupied, positions) {
         Some(pilot) => {
             pilots[rank as usize] = pilot;
             occupied.take_all(&positions[..members.len()]);
@@ -87,11 +90,13 @@ fn place_ranks(
     requires start { start ≤ length plan.now.buckets }
     requires room { most_members plan.now.buckets ≤ length positions.old }
     requires so_far { IsSearchedTo plan.now start pilots.old occupied.old }
-    ensures placed { OnOk result (IsSearchedTo plan.now (length plan.now.buckets) pilots.new occupied.new) }
+    ensures placed { let ranks = length plan.now.buckets in
+        OnOk result (IsSearchedTo plan.now ranks pilots.new occupied.new) }
     ensures stuck { IfErr result (λ stuck. IsStuckAt plan.now stuck) }
 {
+    let size = Divisor::new(plan.size());
     for rank in start..plan.ranks() {
-        place_bucket(plan, rank, 0, pilots, occupied, positions)?;
+        place_bucket(plan, rank, 0, &size, pilots, occupied, positions)?;
     }
     Ok(())
 }

@@ -21,9 +21,11 @@ impl Model for Plan {
 
     ghost Value = { SearchPlan };
 
-    ghost view = { λ a. record { seed = a.seed; size = a.size; limit = a.limit; buckets = a.buckets } };
+    ghost view = { λ a.
+        record { seed = a.seed; size = a.size; limit = a.limit; buckets = a.buckets } };
 
-    ghost invariant = { λ a. IsSearchable (record { seed = a.seed; size = a.size; limit = a.limit; buckets = a.buckets }) };
+    ghost invariant = { λ a. IsSearchable
+        (record { seed = a.seed; size = a.size; limit = a.limit; buckets = a.buckets }) };
 }
 
 impl Plan {

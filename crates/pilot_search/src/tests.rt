@@ -38,7 +38,11 @@ fn searches_end_as_worked_by_hand(rt: HostRuntime) -> Result<(), Fail> {
                 assert_eq!(rt; found.occupied.count(), positions.len() as u64);
                 for position in 0..SIZE {
                     assert!(rt; position < found.occupied.size());
-                    assert_eq!(rt; found.occupied.contains(position), positions.contains(&position), "position {position}");
+                    assert_eq!(rt;
+                        found.occupied.contains(position),
+                        positions.contains(&position),
+                        "position {position}"
+                    );
                 }
             }
             (Err(stuck), Err(expected)) => assert_eq!(rt; stuck, expected),

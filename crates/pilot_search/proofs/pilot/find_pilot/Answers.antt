@@ -1,4 +1,4 @@
-use Rattle.std.proofs.Common.{◌≡◌, ℕ, ◌<◌, List, true, refl, sym, ap, ◌∙◌, arith}
+use Rattle.std.proofs.Common.{◌≡◌, ℕ, List, true, sym, ap, ◌∙◌, arith}
 use Rattle.std.specs.FinSet.{contains}
 use Rattle.pthash.specs.Hash.{pilot_hash}
 use Rattle.pthash.specs.Search.{fits, pilot_fits}

@@ -1,4 +1,4 @@
-use Rattle.std.proofs.Common.{◌≡◌, ℕ, ◌<◌, ◌+◌, ◌||◌, ◌++◌, ◌∷◌, [], List, true, false, length, take, get_or, refl, sym, ap, ◌∙◌, arith}
+use Rattle.std.proofs.Common.{◌≡◌, ℕ, ◌<◌, ◌||◌, ◌++◌, ◌∷◌, [], List, true, false, length, take, get_or, sym, ap, ◌∙◌, arith}
 use Rattle.std.specs.Prelude.{bit_xor, ◌%◌}
 use Rattle.std.proofs.Math.Bool.{or-true}
 use Rattle.std.proofs.lemmas.List.{take_more, take_more_set}
@@ -14,21 +14,21 @@ returns-then-contains-clause-fits c =
     let size : ℕ = c.args.occupied.now.size in
     let members : List ℕ = c.args.members.now in
     let i : ℕ = c.loop-i.i in
+    let p : ℕ = c.remainder-position.result in
     let taken = contains c.args.occupied.now.taken in
     let places : List ℕ = positions_under c.args.hash size members in
-    let member : ℕ = bit_xor (get_or members i 0) c.args.hash in
     let in_range : i < length places = omega (arith, length-positions_under c.args.hash size members) in
-    let here : get_or places i 0 ≡ member % size = get_or-positions_under c.args.hash size members i (omega arith) in
+    let here : get_or places i 0 ≡ p =
+    get_or-positions_under c.args.hash size members i (omega arith)
+    ∙ ap (λ s. bit_xor (get_or members i 0) c.args.hash % s) (sym c.requires.size) ∙ sym c.remainder-position.ensures in
     elim c.then-contains.branch [
       | then-contains-via-then-contains w ↦
-          let known : taken (member % size) ≡ true = ap (λ s. taken (member % s)) (sym c.size-size.ensures) ∙ sym c.contains.ensures ∙ w.if-contains.true in
-          sym (fails_at taken places i (member % size) in_range here (ap (λ b. b || is_among (take i places) (member % size)) known))
+          let known : taken p ≡ true = sym c.contains.ensures ∙ w.if-contains.true in
+          sym (fails_at taken places i p in_range here (ap (λ b. b || is_among (take i places) p) known))
       | then-contains-via-else-contains+then-contains-2 w ↦
-          let again : is_among (take i places) (member % size) ≡ true =
-          ap (λ s. is_among (take i places) (member % s)) (sym c.size-size.ensures)
-          ∙ ap (λ ps. is_among ps (member % c.size-size.result)) (sym c.loop-i.invariant.places)
-          ∙ sym w.contains-else-contains.ensures.value ∙ w.if-contains-2.true in
-          sym (fails_at taken places i (member % size) in_range here (ap (λ b. taken (member % size) || b) again ∙ or-true (taken (member % size))))
+          let again : is_among (take i places) p ≡ true =
+          ap (λ ps. is_among ps p) (sym c.loop-i.invariant.places) ∙ sym w.contains-else-contains.ensures.value ∙ w.if-contains-2.true in
+          sym (fails_at taken places i p in_range here (ap (λ b. taken p || b) again ∙ or-true (taken p)))
     ]
 
 pub loop-i-preserved : goal.loop-i-preserved
@@ -36,22 +36,21 @@ loop-i-preserved c =
     let size : ℕ = c.args.occupied.now.size in
     let members : List ℕ = c.args.members.now in
     let i : ℕ = c.loop-i.i in
+    let p : ℕ = c.remainder-position.result in
     let taken = contains c.args.occupied.now.taken in
     let places : List ℕ = positions_under c.args.hash size members in
-    let member : ℕ = bit_xor (get_or members i 0) c.args.hash in
     let in_range : i < length places = omega (arith, length-positions_under c.args.hash size members) in
-    let here : get_or places i 0 ≡ member % size = get_or-positions_under c.args.hash size members i (omega arith) in
-    let free : taken (member % size) ≡ false = ap (λ s. taken (member % s)) (sym c.size-size.ensures) ∙ sym c.contains.ensures ∙ c.if-contains.false in
-    let new : is_among (take i places) (member % size) ≡ false =
-    ap (λ s. is_among (take i places) (member % s)) (sym c.size-size.ensures)
-    ∙ ap (λ ps. is_among ps (member % c.size-size.result)) (sym c.loop-i.invariant.places)
-    ∙ sym c.contains-else-contains.ensures.value ∙ c.if-contains-2.false in
+    let here : get_or places i 0 ≡ p =
+    get_or-positions_under c.args.hash size members i (omega arith)
+    ∙ ap (λ s. bit_xor (get_or members i 0) c.args.hash % s) (sym c.requires.size) ∙ sym c.remainder-position.ensures in
+    let free : taken p ≡ false = sym c.contains.ensures ∙ c.if-contains.false in
+    let new : is_among (take i places) p ≡ false =
+    ap (λ ps. is_among ps p) (sym c.loop-i.invariant.places) ∙ sym c.contains-else-contains.ensures.value ∙ c.if-contains-2.false in
     record {
-      fit = fits_at taken places i (member % size) in_range here c.loop-i.invariant.fit free new;
+      fit = fits_at taken places i p in_range here c.loop-i.invariant.fit free new;
       places =
-          take_more_set c.loop-i.positions i (member % c.size-size.result) (omega arith)
-          ∙ ap (λ ps. ps ++ (member % c.size-size.result) ∷ []) c.loop-i.invariant.places
-          ∙ ap (λ s. take i places ++ (member % s) ∷ []) c.size-size.ensures
-          ∙ ap (λ p. take i places ++ p ∷ []) (sym here)
+          take_more_set c.loop-i.positions i p (omega arith)
+          ∙ ap (λ ps. ps ++ p ∷ []) c.loop-i.invariant.places
+          ∙ ap (λ q. take i places ++ q ∷ []) (sym here)
           ∙ sym (take_more places i 0 in_range);
     }

@@ -1,8 +1,7 @@
-use Rattle.std.proofs.Common.{◌≡◌, ℕ, ◌<◌, List, true, length, take, refl, sym, ap, ◌∙◌, arith}
+use Rattle.std.proofs.Common.{sym, ap, ◌∙◌}
 use Rattle.std.specs.Prelude.{nat_lt}
 use Rattle.std.specs.List.{list_all}
 use Rattle.std.specs.FinSet as set
-use Rattle.pthash.specs.Order.{bucket_at}
 use Rattle.pthash.specs.Search.{positions_of, pilot_of}
 use Rattle.pthash.specs.SearchLaws.{positions_in_table}
 use Rattle.pilot_search.proofs.Steps.{placed_more, stuck_here}
