@@ -7,6 +7,7 @@ mod std_sink;
 use disk_files::DiskFiles;
 use pth_top::run;
 use std::process::ExitCode;
+use std::rt::Env;
 use std::{env, io};
 use std_sink::StdSink;
 

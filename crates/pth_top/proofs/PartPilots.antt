@@ -12,17 +12,17 @@ use Rattle.pth_top.specs.Part.{plan_of, ArePilotsOf}
 
 -- the plan that was searched is the partition's
 same_plan : (records : List Record) (seed alpha c limit size m : ℕ) (buckets : List Bucket) → m ≡ bucket_count_of (length records) c
-  → size ≡ table_size_of (length records) alpha → buckets ≡ order_of records m
-  → (let searched : SearchPlan = record { seed = seed; size = size; limit = limit; buckets = buckets } in searched) ≡ plan_of records seed alpha c limit
+    → size ≡ table_size_of (length records) alpha → buckets ≡ order_of records m
+    → (let searched : SearchPlan = record { seed = seed; size = size; limit = limit; buckets = buckets } in searched) ≡ plan_of records seed alpha c limit
 same_plan records seed alpha c limit size m buckets count room order =
     let ordered : buckets ≡ order_of records (bucket_count_of (length records) c) = order ∙ ap (order_of records) count in
     λ i. record { seed = seed; size = room i; limit = limit; buckets = ordered i }
 
 pub placed_pilots : (records : List Record) (seed alpha c limit size m : ℕ) (buckets : List Bucket) (placed : Placed) (items : List ℕ)
-  → m ≡ bucket_count_of (length records) c → size ≡ table_size_of (length records) alpha → buckets ≡ order_of records m
-  → IsPlaced (record { seed = seed; size = size; limit = limit; buckets = buckets }) placed
-  → items ≡ pilots_by_number buckets placed.pilots.items m
-  → ArePilotsOf (plan_of records seed alpha c limit) (bucket_count_of (length records) c) items
+    → m ≡ bucket_count_of (length records) c → size ≡ table_size_of (length records) alpha → buckets ≡ order_of records m
+    → IsPlaced (record { seed = seed; size = size; limit = limit; buckets = buckets }) placed
+    → items ≡ pilots_by_number buckets placed.pilots.items m
+    → ArePilotsOf (plan_of records seed alpha c limit) (bucket_count_of (length records) c) items
 placed_pilots records seed alpha c limit size m buckets placed items count room order is_placed numbered =
     let same = same_plan records seed alpha c limit size m buckets count room order in
     let found : IsPlaced (plan_of records seed alpha c limit) placed = subst (λ (plan : SearchPlan). IsPlaced plan placed) same is_placed in

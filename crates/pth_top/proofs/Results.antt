@@ -20,22 +20,22 @@ length-records_from place (key ∷ keys) seed = ap suc (length-records_from (pla
 
 -- the pilots of a list that isn't empty
 pub placed_keys : (keys : List (List ℕ)) (records : List Record) (n : ℕ) (pilots : List ℕ) → records ≡ records_of keys SEED
-  → n ≡ length records → 0 < n → ArePilotsOf (plan_of records SEED ALPHA C PILOT_LIMIT) (bucket_count_of (length records) C) pilots
-  → placed_result n pilots ≡ keys_result keys
+    → n ≡ length records → 0 < n → ArePilotsOf (plan_of records SEED ALPHA C PILOT_LIMIT) (bucket_count_of (length records) C) pilots
+    → placed_result n pilots ≡ keys_result keys
 placed_keys [] records n pilots are count some found = absurd (omega (arith, ap length are))
 placed_keys (key ∷ keys) records n pilots are count some found =
     let all : List (List ℕ) = key ∷ keys in
     let many : n ≡ length all = count ∙ ap length are ∙ length-records_from 0 all SEED in
     let theirs : ArePilotsOf (plan_of_keys all) (bucket_count_of n C) pilots =
-      subst (λ (k : ℕ). ArePilotsOf (plan_of_keys all) (bucket_count_of k C) pilots) (sym (count ∙ ap length are))
-        (subst (λ (r : List Record). ArePilotsOf (plan_of r SEED ALPHA C PILOT_LIMIT) (bucket_count_of (length r) C) pilots) are found) in
+    subst (λ (k : ℕ). ArePilotsOf (plan_of_keys all) (bucket_count_of k C) pilots) (sym (count ∙ ap length are))
+    (subst (λ (r : List Record). ArePilotsOf (plan_of r SEED ALPHA C PILOT_LIMIT) (bucket_count_of (length r) C) pilots) are found) in
     ap (placed_result n) theirs.by_number
-      ∙ sym (ap (search_result n (plan_of_keys all)) theirs.found)
-      ∙ ap (λ k. search_result k (plan_of_keys all) (search_of (plan_of_keys all))) many
+    ∙ sym (ap (search_result n (plan_of_keys all)) theirs.found)
+    ∙ ap (λ k. search_result k (plan_of_keys all) (search_of (plan_of_keys all))) many
 
 -- a file that is read whole
 pub done_over_bytes : (told : Option FileMap) (name bytes : List ℕ) (d : Done) → HasBytes told name bytes → length bytes ≤ MOST_BYTES
-  → d ≡ keys_result (keys_of bytes) → IfSome told (λ m. option_map pilots_result (map.get m name) ≡ Some d)
+    → d ≡ keys_result (keys_of bytes) → IfSome told (λ m. option_map pilots_result (map.get m name) ≡ Some d)
 unfolding pilots_result
 done_over_bytes None name bytes d read few is = tt
 done_over_bytes (Some m) name bytes d read few is =
@@ -52,6 +52,6 @@ larger_result (Some bytes) longer =
 
 -- a file that is too large
 pub done_over_larger : (told : Option FileMap) (name : List ℕ) (d : Done) → IsLonger told name MOST_BYTES → d ≡ too_large_result
-  → IfSome told (λ m. option_map pilots_result (map.get m name) ≡ Some d)
+    → IfSome told (λ m. option_map pilots_result (map.get m name) ≡ Some d)
 done_over_larger None name d longer is = tt
 done_over_larger (Some m) name d longer is = larger_result (map.get m name) (longer refl) ∙ ap Some (sym is)

@@ -13,8 +13,8 @@ written-nothing (Some bytes) = ap Some (sym (append-nil bytes))
 
 -- a front stands there after each answer
 pub front_of_write : (piece : List ℕ) (old new : Option (List ℕ)) (answer : Result (Unit {0}) SinkErr)
-  → OnOk answer (new ≡ written piece old) → (IsErrOf answer Failed → WritesFront piece old new) → (IsErrOf answer NoMemory → new ≡ old)
-  → WritesFront piece old new
+    → OnOk answer (new ≡ written piece old) → (IsErrOf answer Failed → WritesFront piece old new) → (IsErrOf answer NoMemory → new ≡ old)
+    → WritesFront piece old new
 front_of_write piece old new (Ok u) ok failed kept =
     let whole : take (length piece) piece ≡ piece = take_all (length piece) piece (omega arith) in
     (length piece, rw whole ok)

@@ -5,6 +5,8 @@ mod answer;
 mod part;
 mod pilots;
 mod records;
+#[cfg(test)]
+mod tests;
 mod text;
 mod top;
 

@@ -9,4 +9,4 @@ loop-rank-init c =
 pub loop-rank-preserved : goal.loop-rank-preserved
 loop-rank-preserved c =
     one_more_numbered c.args.buckets.now c.args.pilots.now c.loop-rank.by_number.items c.loop-rank.rank c.bucket.result c.args.m
-      (omega arith) (omega arith) (search rules) (search rules) (c.requires.below (c.loop-rank.rank - 1) (omega arith)) c.loop-rank.invariant
+    (omega arith) (omega arith) (search rules) (search rules) (c.requires.below (c.loop-rank.rank - 1) (omega arith)) c.loop-rank.invariant

@@ -7,7 +7,7 @@ use Rattle.pth_top.proofs.part.part_pilots.Goals as goal
 pub returns-in-Ok-clause-pilots : goal.returns-in-Ok-clause-pilots
 returns-in-Ok-clause-pilots c =
     placed_pilots c.args.records.now c.args.seed c.args.alpha c.args.c c.args.limit c.table_size.result c.bucket_count-m.result
-      c.in_ok-ordered_buckets.field-0 c.in-Ok.placed c.in_ok-by_number-in-Ok.field-0.items
-      c.bucket_count-m.ensures.value c.table_size.ensures.value c.in_ok-ordered_buckets.ensures.order
-      (IfOk-at_ok (λ placed. IsPlaced _ placed) c.in-Ok.is c.in_ok-placed.ensures.placed)
-      (search rules)
+    c.in_ok-ordered_buckets.field-0 c.in-Ok.placed c.in_ok-by_number-in-Ok.field-0.items
+    c.bucket_count-m.ensures.value c.table_size.ensures.value c.in_ok-ordered_buckets.ensures.order
+    (IfOk-at_ok (λ placed. IsPlaced _ placed) c.in-Ok.is c.in_ok-placed.ensures.placed)
+    (search rules)
