@@ -1,4 +1,5 @@
 pub mod Files
+pub mod KeyBytes
 pub mod KeyLaws
 pub mod Keys
 pub mod Memory
