@@ -4,5 +4,7 @@ pub mod KeyLaws
 pub mod Keys
 pub mod Memory
 pub mod MemorySink
+pub mod ReaderFields
+pub mod Reading
 pub mod Sink
 pub mod Slots

@@ -3,6 +3,7 @@
 
 mod files;
 mod key_list;
+mod line_reader;
 mod memory_files;
 mod memory_sink;
 mod sink;
@@ -11,6 +12,7 @@ mod whole;
 
 pub use files::{FileErr, Files};
 pub use key_list::KeyList;
+pub use line_reader::{Line, LineErr, LineReader};
 pub use memory_files::MemFiles;
 pub use memory_sink::MemSink;
 pub use sink::{Sink, SinkErr};
