@@ -3,7 +3,7 @@ ghost use Rattle.std.specs.Prelude.{◌≡◌, ◌↔◌, ◌+◌, ◌-◌, ◌<
 ghost use Rattle.std.specs.Option.{ForSome};
 ghost use Rattle.pth_outside.specs.Files.{Rose, contents, IsThere};
 ghost use Rattle.pth_outside.specs.Keys.{keys_of, HasNoFeed};
-ghost use Rattle.pth_outside.specs.Reading.{IsInStep, lines_left, advanced, IsAt, HasLongFirst, IsStuck, IsFirstFeed, IsNextLine};
+ghost use Rattle.pth_outside.specs.Reading.{IsInStep, lines_left, advanced, IsAt, HasLongFirst, IsStuck, IsFirstFeed, IsNextLine, IsTooLong};
 
 use crate::{FileErr, Files, LINE_FEED, LONGEST_KEY, NoMemory};
 use memchr::memchr;
@@ -116,6 +116,7 @@ impl LineReader {
     fn feed(&self) -> Option<usize>
         ensures found { IfSome result (IsFirstFeed self.now.ahead) }
         ensures none { IfNone result (HasNoFeed self.now.ahead) }
+        ensures bound { length self.now.ahead ≤ BUFFER }
     {
         memchr(LINE_FEED, &self.buffer[self.start..self.end])
     }
@@ -187,5 +188,102 @@ impl LineReader {
         let count = read_behind(files, self.name.as_str(), at, self.buffer.as_mut_slice(), self.end)?;
         self.end += count;
         Ok(count)
+    }
+
+    // Reads on until a whole line is ahead, or the file's end.
+    fn find_line<F: Files>(&mut self, files: &mut F) -> Result<Option<Span>, LineErr>
+        requires { self.old.lines < 2 ^ 40 }
+        ensures at { IsAt self.old self.new }
+        ensures step { IsInStep self.old (F.told files.old) → IsInStep self.new (F.told files.old) }
+        ensures line { IfOk result (λ found. IfSome found (λ span.
+            IsNextLine self.new (F.told files.old) span.len span.whole)) }
+        ensures end { result ≡ Ok None → IsInStep self.old (F.told files.old) →
+            ForSome (contents (F.told files.old) self.old.name) (λ bytes.
+            lines_left self.old bytes ≡ []) }
+        ensures too_long { (line : ℕ) → IsErrOf result (LineErr.TooLong line) →
+            IsTooLong self.old self.new (F.told files.old) line }
+        ensures again { IsStuck self.old.ahead →
+            IsErrOf result (LineErr.TooLong (self.old.lines + 1)) }
+
+        ensures there { OnOk result (self.old.ahead ≡ [] → IsThere (F.told files.old) self.old.name) }
+        ensures told { F.told files.new ≡ F.told files.old }
+        ensures sure { F.sure files.new ≡ F.sure files.old }
+        ensures later { F.faults files.old ≤ F.faults files.new }
+        ensures fault { IsErrOf result LineErr.Fault → Rose (F.faults files.old) (F.faults files.new) }
+        ensures missing { IsErrOf result LineErr.Fault → IsTrue (F.sure files.old) →
+            contents (F.told files.old) self.old.name ≡ None }
+    {
+        loop {
+            if let Some(len) = self.feed() {
+                return Ok(Some(Span {
+                    len,
+                    whole: len + 1,
+                }));
+            }
+            let len = self.ahead_len();
+            if len == BUFFER {
+                return Err(LineErr::TooLong {
+                    line: self.number(),
+                });
+            }
+            let count = match self.read_ahead(files) {
+                Ok(count) => count,
+                Err(FileErr::Failed) => return Err(LineErr::Fault),
+                Err(FileErr::NoMemory) => return Err(LineErr::NoMemory),
+            };
+            if count == 0 {
+                if len == 0 {
+                    return Ok(None);
+                }
+                return Ok(Some(Span { len, whole: len }));
+            }
+        }
+    }
+
+    /// Gives the next line, without its line feed, in place of what `into` held.
+    pub fn next_line<F: Files>(
+        &mut self,
+        files: &mut F,
+        into: &mut Vec<u8>,
+    ) -> Result<Line, LineErr>
+        requires { self.old.lines < 2 ^ 40 }
+        ensures got { result ≡ Ok Line.Got → IsInStep self.old (F.told files.old) →
+            ForSome (contents (F.told files.old) self.old.name) (λ bytes.
+            lines_left self.old bytes ≡ into.new.items ∷ lines_left self.new bytes) }
+        ensures end { result ≡ Ok Line.End → IsInStep self.old (F.told files.old) →
+            ForSome (contents (F.told files.old) self.old.name) (λ bytes.
+            lines_left self.old bytes ≡ []) }
+        ensures short { OnOk result (vec_len into.new ≤ LONGEST_KEY) }
+        ensures too_long { (line : ℕ) → IsErrOf result (LineErr.TooLong line) →
+            IsTooLong self.old self.new (F.told files.old) line }
+        ensures again { IsStuck self.old.ahead →
+            IsErrOf result (LineErr.TooLong (self.old.lines + 1)) }
+
+        // Where the reader stands afterwards.
+        ensures name { self.new.name ≡ self.old.name }
+        ensures counted { result ≡ Ok Line.Got → self.new.lines ≡ self.old.lines + 1 }
+        ensures stays { result ≡ Ok Line.End → IsAt self.old self.new }
+        ensures err { OnErr result (IsAt self.old self.new) }
+        ensures step { IsInStep self.old (F.told files.old) → IsInStep self.new (F.told files.old) }
+        ensures empty { result ≡ Ok Line.End → into.new.items ≡ [] }
+        ensures empty_err { OnErr result (into.new.items ≡ []) }
+
+        // No file changes, whatever the answer.
+        ensures there { OnOk result (self.old.ahead ≡ [] → IsThere (F.told files.old) self.old.name) }
+        ensures told { F.told files.new ≡ F.told files.old }
+        ensures sure { F.sure files.new ≡ F.sure files.old }
+        ensures later { F.faults files.old ≤ F.faults files.new }
+        ensures fault { IsErrOf result LineErr.Fault → Rose (F.faults files.old) (F.faults files.new) }
+        ensures missing { IsErrOf result LineErr.Fault → IsTrue (F.sure files.old) →
+            contents (F.told files.old) self.old.name ≡ None }
+    {
+        into.clear();
+        match self.find_line(files)? {
+            Some(span) => match self.give(span, into) {
+                Ok(()) => Ok(Line::Got),
+                Err(_) => Err(LineErr::NoMemory),
+            },
+            None => Ok(Line::End),
+        }
     }
 }
