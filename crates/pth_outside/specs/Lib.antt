@@ -1,7 +1,10 @@
 pub mod Files
+pub mod KeyBytes
 pub mod KeyLaws
 pub mod Keys
 pub mod Memory
 pub mod MemorySink
+pub mod ReaderFields
+pub mod Reading
 pub mod Sink
 pub mod Slots

@@ -2,6 +2,8 @@
 #![tactic(auto)]
 
 mod files;
+mod key_list;
+mod line_reader;
 mod memory_files;
 mod memory_sink;
 mod sink;
@@ -9,6 +11,8 @@ mod slots;
 mod whole;
 
 pub use files::{FileErr, Files};
+pub use key_list::KeyList;
+pub use line_reader::{Line, LineErr, LineReader};
 pub use memory_files::MemFiles;
 pub use memory_sink::MemSink;
 pub use sink::{Sink, SinkErr};
@@ -17,6 +21,9 @@ pub use whole::{WholeErr, read_whole};
 
 /// The byte between two keys of a key file.
 pub const LINE_FEED: u8 = b'\n';
+
+/// The most bytes that a key has.
+pub const LONGEST_KEY: usize = 65535;
 
 /// A call found no memory for what it was to do.
 #[derive(Clone, Copy, Debug, PartialEq, Eq)]

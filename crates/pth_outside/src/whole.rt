@@ -28,7 +28,7 @@ impl From<AllocError> for WholeErr {
 }
 
 // A buffer of this many zero bytes.
-fn zeros(alloc: Global, len: usize) -> Result<Vec<u8>, AllocError>
+pub(crate) fn zeros(alloc: Global, len: usize) -> Result<Vec<u8>, AllocError>
     ensures { IfOk result (λ buffer. vec_len buffer ≡ len) }
 {
     vec![in alloc; 0; len]

@@ -1,0 +1,289 @@
+// The lines of a file, one after another.
+ghost use Rattle.std.specs.Prelude.{◌≡◌, ◌↔◌, ◌+◌, ◌-◌, ◌<◌, ◌≤◌, ◌^◌, ◌++◌, ℕ, List, [], ◌∷◌, Ok, Err, None, length, take, drop, IfOk, IfSome, IfNone, OnOk, OnErr, IsErrOf, IsTrue, vec_len};
+ghost use Rattle.std.specs.Option.{ForSome};
+ghost use Rattle.pth_outside.specs.Files.{Rose, contents, IsThere};
+ghost use Rattle.pth_outside.specs.Keys.{keys_of, HasNoFeed};
+ghost use Rattle.pth_outside.specs.Reading.{IsInStep, lines_left, advanced, IsAt, HasLongFirst, IsStuck, IsFirstFeed, IsNextLine, IsTooLong};
+
+use crate::{FileErr, Files, LINE_FEED, LONGEST_KEY, NoMemory};
+use memchr::memchr;
+use crate::whole::zeros;
+use std::alloc::{AllocError, Global};
+use std::marker::Model;
+
+// The longest key with its line feed.
+const BUFFER: usize = 65536;
+
+/// Reads the lines of one file in their order, through a buffer that holds the longest one.
+#[derive(Drop)]
+pub struct LineReader {
+    name: String,
+    buffer: Vec<u8>,
+    start: usize,
+    end: usize,
+    place: u64,
+    lines: u64,
+}
+
+impl Model for LineReader {
+    ghost use Rattle.std.specs.Prelude.{ℕ, length, take, drop, ◌-◌, string_bytes};
+    ghost use Rattle.pth_outside.specs.Reading.{Reader};
+    ghost use Rattle.pth_outside.specs.ReaderFields.{AreFields};
+
+    ghost Value = { Reader };
+
+    ghost view = { λ r. record {
+        name = string_bytes r.name;
+        place = r.place;
+        ahead = take (r.end - r.start) (drop r.start r.buffer.items);
+        lines = r.lines } };
+
+    ghost invariant = { λ r. AreFields (length r.buffer.items) r.start r.end r.place r.lines };
+}
+
+/// What `next_line` found.
+#[derive(Clone, Copy, Debug, PartialEq, Eq)]
+pub enum Line {
+    Got,
+    End,
+}
+
+/// Why there is no line.
+#[derive(Clone, Copy, Debug, PartialEq, Eq)]
+pub enum LineErr {
+    /// The file is missing, or the outside failed.
+    Fault,
+    /// The line with this number, counted from 1, has more bytes than a key may have.
+    TooLong { line: u64 },
+    NoMemory,
+}
+
+// The bytes of a line, and those that it takes of the file with its feed.
+#[derive(Clone, Copy)]
+struct Span {
+    len: usize,
+    whole: usize,
+}
+
+// Reads behind the first `end` bytes of a buffer.
+fn read_behind<F: Files>(
+    files: &mut F,
+    name: &str,
+    at: u64,
+    buffer: &mut [u8],
+    end: usize,
+) -> Result<usize, FileErr>
+    requires { end ≤ length buffer.old }
+    ensures bound { IfOk result (λ count. end + count ≤ length buffer.old) }
+    ensures front { take end buffer.new ≡ take end buffer.old }
+    ensures read { IfOk result (λ count. ForSome (contents (F.told files.old) name.now) (λ bytes.
+        take (end + count) buffer.new ≡ take end buffer.old ++ take count (drop at bytes))) }
+    ensures nothing { IfOk result (λ count. ForSome (contents (F.told files.old) name.now) (λ bytes.
+        count ≡ 0 → end < length buffer.old → length bytes ≤ at)) }
+    ensures within { IfOk result (λ count. ForSome (contents (F.told files.old) name.now) (λ bytes.
+        count ≤ length bytes - at)) }
+
+    ensures there { OnOk result (IsThere (F.told files.old) name.now) }
+    ensures told { F.told files.new ≡ F.told files.old }
+    ensures sure { F.sure files.new ≡ F.sure files.old }
+    ensures later { F.faults files.old ≤ F.faults files.new }
+    ensures failed { IsErrOf result FileErr.Failed → Rose (F.faults files.old) (F.faults files.new) }
+    ensures missing { IsErrOf result FileErr.Failed → IsTrue (F.sure files.old) →
+        contents (F.told files.old) name.now ≡ None }
+{
+    files.read_at(name, at, &mut buffer[end..])
+}
+
+impl LineReader {
+    /// Stands at the start of a file.
+    pub fn new(alloc: Global, name: &str) -> Result<Self, NoMemory>
+        ensures name { IfOk result (λ r. r.name ≡ name.now) }
+        ensures place { IfOk result (λ r. r.place ≡ 0) }
+        ensures ahead { IfOk result (λ r. r.ahead ≡ []) }
+        ensures lines { IfOk result (λ r. r.lines ≡ 0) }
+    {
+        Ok(LineReader {
+            name: String::from_str(alloc, name)?,
+            buffer: zeros(alloc, BUFFER)?,
+            start: 0,
+            end: 0,
+            place: 0,
+            lines: 0,
+        })
+    }
+
+    // The place of the first line feed ahead.
+    fn feed(&self) -> Option<usize>
+        ensures found { IfSome result (IsFirstFeed self.now.ahead) }
+        ensures none { IfNone result (HasNoFeed self.now.ahead) }
+        ensures bound { length self.now.ahead ≤ BUFFER }
+    {
+        memchr(LINE_FEED, &self.buffer[self.start..self.end])
+    }
+
+    // How many bytes are ahead.
+    fn ahead_len(&self) -> usize
+        ensures len { result ≡ length self.now.ahead }
+        ensures bound { length self.now.ahead ≤ BUFFER }
+    {
+        self.end - self.start
+    }
+
+    // The number of the next line, counted from 1.
+    fn number(&self) -> u64
+        requires { self.now.lines < 2 ^ 40 }
+        ensures { result ≡ self.now.lines + 1 }
+    {
+        self.lines + 1
+    }
+
+    // Gives the next bytes as a line, and goes on behind it.
+    fn give(&mut self, span: Span, into: &mut Vec<u8>) -> Result<(), AllocError>
+        requires within { span.whole ≤ length self.old.ahead }
+        requires begins { span.len ≤ span.whole }
+        requires lines { self.old.lines < 2 ^ 40 }
+        ensures ok { OnOk result (self.new ≡ advanced span.whole self.old) }
+        ensures line { OnOk result (into.new.items ≡ into.old.items ++ take span.len self.old.ahead) }
+        ensures err { OnErr result (self.new ≡ self.old) }
+        ensures kept { OnErr result (into.new.items ≡ into.old.items) }
+    {
+        into.extend_from_slice(&self.buffer[self.start..self.start + span.len])?;
+        self.start += span.whole;
+        self.place += span.whole as u64;
+        self.lines += 1;
+        Ok(())
+    }
+
+    // Reads on, behind the bytes that are ahead.
+    fn read_ahead<F: Files>(&mut self, files: &mut F) -> Result<usize, FileErr>
+        requires room { length self.old.ahead < BUFFER }
+        requires lines { self.old.lines < 2 ^ 40 }
+        ensures at { IsAt self.old self.new }
+        ensures more { IfOk result (λ count. length self.new.ahead ≡ length self.old.ahead + count) }
+        ensures err { OnErr result (self.new.ahead ≡ self.old.ahead) }
+        ensures none { result ≡ Ok 0 → self.new.ahead ≡ self.old.ahead }
+        ensures read { IfOk result (λ count.
+            ForSome (contents (F.told files.old) self.old.name) (λ bytes.
+            let at = self.old.place + length self.old.ahead in
+            self.new.ahead ≡ self.old.ahead ++ take count (drop at bytes))) }
+        ensures nothing { result ≡ Ok 0 →
+            ForSome (contents (F.told files.old) self.old.name) (λ bytes.
+            length bytes ≤ self.old.place + length self.old.ahead) }
+        ensures within { IfOk result (λ count.
+            ForSome (contents (F.told files.old) self.old.name) (λ bytes.
+            count ≤ length bytes - (self.old.place + length self.old.ahead))) }
+
+        ensures there { OnOk result (IsThere (F.told files.old) self.old.name) }
+        ensures told { F.told files.new ≡ F.told files.old }
+        ensures sure { F.sure files.new ≡ F.sure files.old }
+        ensures later { F.faults files.old ≤ F.faults files.new }
+        ensures failed { IsErrOf result FileErr.Failed → Rose (F.faults files.old) (F.faults files.new) }
+        ensures missing { IsErrOf result FileErr.Failed → IsTrue (F.sure files.old) →
+            contents (F.told files.old) self.old.name ≡ None }
+    {
+        self.buffer.rotate_left(self.start);
+        self.end -= self.start;
+        self.start = 0;
+        let at = self.place + self.end as u64;
+        let count = read_behind(files, self.name.as_str(), at, self.buffer.as_mut_slice(), self.end)?;
+        self.end += count;
+        Ok(count)
+    }
+
+    // Reads on until a whole line is ahead, or the file's end.
+    fn find_line<F: Files>(&mut self, files: &mut F) -> Result<Option<Span>, LineErr>
+        requires { self.old.lines < 2 ^ 40 }
+        ensures at { IsAt self.old self.new }
+        ensures step { IsInStep self.old (F.told files.old) → IsInStep self.new (F.told files.old) }
+        ensures line { IfOk result (λ found. IfSome found (λ span.
+            IsNextLine self.new (F.told files.old) span.len span.whole)) }
+        ensures end { result ≡ Ok None → IsInStep self.old (F.told files.old) →
+            ForSome (contents (F.told files.old) self.old.name) (λ bytes.
+            lines_left self.old bytes ≡ []) }
+        ensures too_long { (line : ℕ) → IsErrOf result (LineErr.TooLong line) →
+            IsTooLong self.old self.new (F.told files.old) line }
+        ensures again { IsStuck self.old.ahead →
+            IsErrOf result (LineErr.TooLong (self.old.lines + 1)) }
+
+        ensures there { OnOk result (self.old.ahead ≡ [] → IsThere (F.told files.old) self.old.name) }
+        ensures told { F.told files.new ≡ F.told files.old }
+        ensures sure { F.sure files.new ≡ F.sure files.old }
+        ensures later { F.faults files.old ≤ F.faults files.new }
+        ensures fault { IsErrOf result LineErr.Fault → Rose (F.faults files.old) (F.faults files.new) }
+        ensures missing { IsErrOf result LineErr.Fault → IsTrue (F.sure files.old) →
+            contents (F.told files.old) self.old.name ≡ None }
+    {
+        loop {
+            if let Some(len) = self.feed() {
+                return Ok(Some(Span {
+                    len,
+                    whole: len + 1,
+                }));
+            }
+            let len = self.ahead_len();
+            if len == BUFFER {
+                return Err(LineErr::TooLong {
+                    line: self.number(),
+                });
+            }
+            let count = match self.read_ahead(files) {
+                Ok(count) => count,
+                Err(FileErr::Failed) => return Err(LineErr::Fault),
+                Err(FileErr::NoMemory) => return Err(LineErr::NoMemory),
+            };
+            if count == 0 {
+                if len == 0 {
+                    return Ok(None);
+                }
+                return Ok(Some(Span { len, whole: len }));
+            }
+        }
+    }
+
+    /// Gives the next line, without its line feed, in place of what `into` held.
+    pub fn next_line<F: Files>(
+        &mut self,
+        files: &mut F,
+        into: &mut Vec<u8>,
+    ) -> Result<Line, LineErr>
+        requires { self.old.lines < 2 ^ 40 }
+        ensures got { result ≡ Ok Line.Got → IsInStep self.old (F.told files.old) →
+            ForSome (contents (F.told files.old) self.old.name) (λ bytes.
+            lines_left self.old bytes ≡ into.new.items ∷ lines_left self.new bytes) }
+        ensures end { result ≡ Ok Line.End → IsInStep self.old (F.told files.old) →
+            ForSome (contents (F.told files.old) self.old.name) (λ bytes.
+            lines_left self.old bytes ≡ []) }
+        ensures short { OnOk result (vec_len into.new ≤ LONGEST_KEY) }
+        ensures too_long { (line : ℕ) → IsErrOf result (LineErr.TooLong line) →
+            IsTooLong self.old self.new (F.told files.old) line }
+        ensures again { IsStuck self.old.ahead →
+            IsErrOf result (LineErr.TooLong (self.old.lines + 1)) }
+
+        // Where the reader stands afterwards.
+        ensures name { self.new.name ≡ self.old.name }
+        ensures counted { result ≡ Ok Line.Got → self.new.lines ≡ self.old.lines + 1 }
+        ensures stays { result ≡ Ok Line.End → IsAt self.old self.new }
+        ensures err { OnErr result (IsAt self.old self.new) }
+        ensures step { IsInStep self.old (F.told files.old) → IsInStep self.new (F.told files.old) }
+        ensures empty { result ≡ Ok Line.End → into.new.items ≡ [] }
+        ensures empty_err { OnErr result (into.new.items ≡ []) }
+
+        // No file changes, whatever the answer.
+        ensures there { OnOk result (self.old.ahead ≡ [] → IsThere (F.told files.old) self.old.name) }
+        ensures told { F.told files.new ≡ F.told files.old }
+        ensures sure { F.sure files.new ≡ F.sure files.old }
+        ensures later { F.faults files.old ≤ F.faults files.new }
+        ensures fault { IsErrOf result LineErr.Fault → Rose (F.faults files.old) (F.faults files.new) }
+        ensures missing { IsErrOf result LineErr.Fault → IsTrue (F.sure files.old) →
+            contents (F.told files.old) self.old.name ≡ None }
+    {
+        into.clear();
+        match self.find_line(files)? {
+            Some(span) => match self.give(span, into) {
+                Ok(()) => Ok(Line::Got),
+                Err(_) => Err(LineErr::NoMemory),
+            },
+            None => Ok(Line::End),
+        }
+    }
+}
