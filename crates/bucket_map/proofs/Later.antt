@@ -13,12 +13,15 @@ use Rattle.bucket_map.specs.Clash.{IsNoLater}
 abbrev pub key_of : Record → ℕ × ℕ × ℕ
 key_of r = (r.a, r.b, r.ordinal)
 
+-- their order
 abbrev pub key_cmp : ℕ × ℕ × ℕ → ℕ × ℕ × ℕ → Ordering
 key_cmp x y = ordering_then (ordering_then (nat_cmp x.0 y.0) (nat_cmp x.1 y.1)) (nat_cmp x.2 y.2)
 
+-- a lesser number compares as less
 nat_cmp-lt : (x y : ℕ) → x < y → nat_cmp x y ≡ Less
 nat_cmp-lt x y h = rw (lt-ltb x y h) refl
 
+-- equal numbers compare as equal
 nat_cmp-eq : (x y : ℕ) → x ≡ y → nat_cmp x y ≡ Equal
 nat_cmp-eq x y h = rw (le-ltb x y (omega arith), eq-eqb x y h) refl
 
@@ -90,6 +93,7 @@ no_later-far records sorted i (suc gap) d h =
     (no_later-far records sorted i gap d (omega arith))
     (no_later-from_test (get_or records (i + suc gap) d) (get_or records ((i + suc gap) + 1) d) (sorted (i + suc gap) d (omega arith) (omega arith))))
 
+-- records that are sorted among neighbours are sorted
 pub AllPairs-sorted : (records : List Record) → IsSortedByKey key_of key_cmp records → AllPairs IsNoLater records
 AllPairs-sorted records sorted =
     λ i j d i_lt_j j_in.

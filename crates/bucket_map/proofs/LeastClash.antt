@@ -7,6 +7,7 @@ use Rattle.pthash.specs.declared.Record.{Record}
 use Rattle.bucket_map.specs.Clash.{HaveSamePair, HasDistinctPairs, HasDistinctOrdinals, record_at, Clash, IsLeastClash, IsNoLater}
 use Rattle.bucket_map.proofs.Neighbours.{Repeats, IsLeastRepeat, IsLeastOf}
 
+-- what a place outside of the list reads as
 abbrev NO_RECORD : Record
 NO_RECORD = record { a = 0; b = 0; ordinal = 0 }
 
@@ -25,14 +26,17 @@ ordinal_le x y (inl a) same = let e = same.0 in absurd (omega arith)
 ordinal_le x y (inr (a, inl b)) same = let e = same.1 in absurd (omega arith)
 ordinal_le x y (inr (a, inr b)) same = b.1
 
+-- the same pair either way round
 same_pair-sym : (x y : Record) → HaveSamePair x y → HaveSamePair y x
 same_pair-sym x y same = (sym same.0, sym same.1)
 
+-- the same pair as a record of the same pair
 same_pair-trans : (x y z : Record) → HaveSamePair x y → HaveSamePair y z → HaveSamePair x z
 same_pair-trans x y z same also = (same.0 ∙ also.0, same.1 ∙ also.1)
 
 -- the same pair at any place between
 module _ (records : List Record) (sorted : AllPairs IsNoLater records) where
+  -- a place between two of the same pair has it too
   at_between : (p m q : ℕ) → p < m → m < q → q < length records
       → HaveSamePair (record_at records p) (record_at records q) → HaveSamePair (record_at records p) (record_at records m)
   at_between p m q low high inside same =
@@ -181,11 +185,13 @@ module _ (records : List Record) (sorted : AllPairs IsNoLater records) where
             ];
       }
 
+  -- what is found is a clash
   pub some-clash : (n : ℕ) (least : Option (ℕ × ℕ)) → n ≤ max 1 (length records) → length records ≤ n
       → IsLeastOf records n least → IfSome least (λ c. Clash records c.0 c.1)
   some-clash n None within all none = tt
   some-clash n (Some clash) within all repeat = clash-is n clash within all repeat
 
+  -- with distinct ordinals what is found is the least clash
   pub some-least : HasDistinctOrdinals records → (n : ℕ) (least : Option (ℕ × ℕ)) → n ≤ max 1 (length records) → length records ≤ n
       → IsLeastOf records n least → IfSome least (λ c. IsLeastClash records c.0 c.1)
   some-least distinct n None within all none = tt

@@ -10,6 +10,7 @@ use Rattle.std.proofs.lemmas.List.Sorted.{IsPermutation-keeps}
 use Rattle.pthash.specs.declared.Record.{Record}
 use Rattle.bucket_map.specs.Clash.{HaveSamePair, HasDistinctPairs, HasDistinctOrdinals, record_at, Clash, IsLeastClash}
 
+-- what a place outside of the list reads as
 abbrev NO_RECORD : Record
 NO_RECORD = record { a = 0; b = 0; ordinal = 0 }
 
@@ -25,10 +26,12 @@ pub record IsMovedFrom (xs ys : List Record) : Type 0 where
 abbrev exchanged : ℕ → ℕ → ℕ → ℕ
 exchanged i j k = cond (eqb k j) i (cond (eqb k i) j k)
 
+-- a list is moved from itself
 moved-start : (xs : List Record) → IsMovedFrom xs xs
 moved-start xs =
     record { len = refl; from = λ k. k; inside = λ k h. h; same = λ k h. refl; apart = λ j k j_in k_in ne. ne }
 
+-- the other place is inside too
 exchanged-lt : (n i j k : ℕ) → i < n → j < n → k < n → exchanged i j k < n
 exchanged-lt n i j k i_in j_in k_in =
     elim (eqb k j) as (λ b. cond b i (cond (eqb k i) j k) < n) [
@@ -36,9 +39,11 @@ exchanged-lt n i j k i_in j_in k_in =
       | false ↦ elim (eqb k i) as (λ b. cond b j k < n) [ true ↦ j_in | false ↦ k_in ]
     ]
 
+-- different places have different other places
 exchanged-apart : (i j p q : ℕ) → p ≢ q → exchanged i j p ≢ exchanged i j q
 exchanged-apart i j p q ne = grind (arith, nat_tests)
 
+-- a swap reads as the other place
 record_at-swap : (l : List Record) (i j k : ℕ) → i < length l → j < length l → record_at (swap l i j) k ≡ record_at l (exchanged i j k)
 record_at-swap l i j k i_in j_in =
     let front = set l i (record_at l j) in
@@ -64,6 +69,7 @@ record_at-swap l i j k i_in j_in =
           ]
     ]
 
+-- a swap moves two records
 moved-step : (xs l : List Record) (i j : ℕ) → i < length l → j < length l → IsMovedFrom xs l → IsMovedFrom xs (swap l i j)
 moved-step xs l i j i_in j_in moved =
     let len = length-swap l i j in
@@ -78,6 +84,7 @@ moved-step xs l i j i_in j_in moved =
           (exchanged-lt (length l) i j q i_in j_in (omega arith)) (exchanged-apart i j p q ne);
     }
 
+-- a permutation moves each record
 pub moved : (xs ys : List Record) → IsPermutation xs ys → IsMovedFrom xs ys
 moved xs ys permutation = IsPermutation-keeps xs (IsMovedFrom xs) (moved-start xs) (moved-step xs) ys permutation
 

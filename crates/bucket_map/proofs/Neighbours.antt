@@ -35,6 +35,7 @@ pair_tells x y =
       | inr other_a ↦ inr (rw other_a.0 refl, λ h. other_a.1 h.0)
     ]
 
+-- which of two numbers is the lesser
 leb_tells : (m n : ℕ) → ((leb m n ≡ true) × (m ≤ n)) ⊎ ((leb m n ≡ false) × (n < m))
 leb_tells m n =
     elim (cases_lt n m) [

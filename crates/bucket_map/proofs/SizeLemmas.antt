@@ -37,6 +37,7 @@ halvings-log (suc most) (suc e) n low high few =
 pub floor_log2-is : (e n : ℕ) → 2 ^ e ≤ n → n < 2 * 2 ^ e → e < 64 → floor_log2 n ≡ e
 floor_log2-is e n low high few = halvings-log 64 e n low high (omega arith)
 
+-- nothing divided is nothing
 div_ceil-none : (y : ℕ) → 0 ≡ div_ceil 0 y
 div_ceil-none y = rw (zero-div y, zero-mod y) refl
 
