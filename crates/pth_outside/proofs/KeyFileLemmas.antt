@@ -1,5 +1,5 @@
 -- The keys of a file, read line by line.
-use Rattle.std.proofs.Common.{◌≡◌, ◌≤◌, ◌<◌, ◌+◌, ℕ, zero, suc, Bool, true, false, cond, List, [], ◌∷◌, ◌++◌, Option, Some, None, IsSome, length, take, refl, sym, ap, subst, ◌∙◌, ◌⊎◌, ⊎_elim, inl, inr, drop, arith, length-append, append_assoc, ltb}
+use Rattle.std.proofs.Common.{◌≡◌, ◌≤◌, ◌<◌, ◌+◌, ℕ, zero, suc, Bool, false, cond, List, [], ◌∷◌, ◌++◌, Option, Some, None, IsSome, length, take, refl, sym, ap, subst, ◌∙◌, ◌⊎◌, ⊎_elim, inl, inr, drop, arith, length-append, append_assoc}
 use Rattle.std.specs.List.{position_from}
 use Rattle.std.specs.Option.{ForSome, IsSomeAnd}
 use Rattle.std.proofs.lemmas.Bool.{false_from_ne_true, false≢true}
@@ -9,7 +9,6 @@ use Rattle.pth_outside.specs.declared.TheConstants.{LONGEST_KEY}
 use Rattle.pth_outside.specs.Files.{FileMap, contents, IsThere, OfFile}
 use Rattle.pth_outside.specs.Keys.{keys_of, is_too_long, first_too_long, AreTooMany}
 use Rattle.pth_outside.specs.Reading.{Reader, IsInStep, IsTooLong, HasLongFirst, lines_left}
-use Rattle.pth_outside.proofs.Pieces.{IsKept}
 
 -- each of these is short enough for a key
 pub AreShort : List (List ℕ) → Type 0
@@ -142,13 +141,13 @@ pub names_line : (name : List ℕ) (told told' : Option FileMap) (r r' : Reader)
     → OfFile told name (λ bytes. first_too_long (take most (keys_of bytes)) ≡ Some line)
 names_line name told told' r r' keys most line so_far same room too =
     of_file told name (λ bytes. first_too_long (take most (keys_of bytes)) ≡ Some line) (there_now name told told' r keys so_far same too.there)
-      (names_long name told r keys most line so_far room too.number (long_here name told told' r r' keys line so_far same too))
+    (names_long name told r keys most line so_far room too.number (long_here name told told' r r' keys line so_far same too))
 
 pub many_by_long : (name : List ℕ) (told told' : Option FileMap) (r r' : Reader) (keys : List (List ℕ)) (most line : ℕ) → KeysSoFar name told r keys → told' ≡ told → length keys ≡ most → IsTooLong r r' told' line
     → OfFile told name (λ bytes. AreTooMany most (keys_of bytes))
 many_by_long name told told' r r' keys most line so_far same full too =
     of_file told name (λ bytes. AreTooMany most (keys_of bytes)) (there_now name told told' r keys so_far same too.there)
-      (many_long name told r keys most so_far full (long_here name told told' r r' keys line so_far same too))
+    (many_long name told r keys most so_far full (long_here name told told' r r' keys line so_far same too))
 
 pub many_by_line : (name line : List ℕ) (told told' : Option FileMap) (r r' : Reader) (keys : List (List ℕ)) (most : ℕ) → KeysSoFar name told r keys → told' ≡ told → length keys ≡ most
     → (IsInStep r told' → ForSome (contents told' r.name) (λ bytes. lines_left r bytes ≡ line ∷ lines_left r' bytes)) → (r.ahead ≡ [] → IsThere told' r.name)
@@ -156,4 +155,4 @@ pub many_by_line : (name line : List ℕ) (told told' : Option FileMap) (r r' : 
 many_by_line name line told told' r r' keys most so_far same full got there =
     let G : Option FileMap → Type 0 = λ t. IsInStep r t → ForSome (contents t r.name) (λ bytes. lines_left r bytes ≡ line ∷ lines_left r' bytes) in
     of_file told name (λ bytes. AreTooMany most (keys_of bytes)) (there_now name told told' r keys so_far same there)
-      (many_got name told r keys most line (λ bytes. lines_left r' bytes) so_far full (λ bytes is. subst G same got so_far.step bytes (ap (contents told) so_far.named ∙ is)))
+    (many_got name told r keys most line (λ bytes. lines_left r' bytes) so_far full (λ bytes is. subst G same got so_far.step bytes (ap (contents told) so_far.named ∙ is)))

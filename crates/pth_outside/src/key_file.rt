@@ -73,3 +73,42 @@ pub fn read_keys<F: Files>(
         }
     }
 }
+
+#[cfg(test)]
+mod tests {
+    use super::*;
+    use crate::MemFiles;
+    use crate::whole::zeros;
+    use std::test::Fail;
+
+    #[test]
+    fn keys_are_cut_at_line_feeds(rt: HostRuntime) -> Result<(), Fail> {
+        let alloc = rt.alloc();
+        for (text, most, want) in [
+            (b"".as_slice(), 3, Ok(0)),
+            (b"x\n\ny", 3, Ok(3)),
+            (b"\n", 3, Ok(1)),
+            (b"a\nb\nc\nd\n", 3, Err(KeysErr::TooMany)),
+            (b"a\nb\n", 1, Err(KeysErr::TooMany)),
+        ] {
+            let mut files = MemFiles::new(alloc, Vec::new(alloc), 2);
+            files.put("f", text).ok().ok_or("memory")?;
+            let read = read_keys(alloc, &mut files, "f", most);
+            assert_eq!(rt; read.map(|keys| keys.len()), want, "{text:?}");
+        }
+        Ok(())
+    }
+
+    #[test]
+    fn a_key_has_at_most_65535_bytes(rt: HostRuntime) -> Result<(), Fail> {
+        let alloc = rt.alloc();
+        for (len, want) in [(65535, Ok(1)), (65536, Err(KeysErr::TooLong { line: 1 }))] {
+            let text = zeros(alloc, len)?;
+            let mut files = MemFiles::new(alloc, Vec::new(alloc), 70000);
+            files.put("f", text.as_slice()).ok().ok_or("memory")?;
+            let read = read_keys(alloc, &mut files, "f", 2);
+            assert_eq!(rt; read.map(|keys| keys.len()), want, "{len} bytes");
+        }
+        Ok(())
+    }
+}
