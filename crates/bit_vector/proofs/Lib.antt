@@ -1,0 +1,5 @@
+pub mod BitLemmas
+pub mod WordLemmas
+pub mod ReadLemmas
+pub mod PackLemmas
+pub mod ViewLemmas
