@@ -3,3 +3,4 @@ pub mod WordLemmas
 pub mod ReadLemmas
 pub mod PackLemmas
 pub mod ViewLemmas
+pub mod SampleLemmas
