@@ -1,5 +1,5 @@
 -- Words that hold just so many bits, and bits that are put behind them.
-use Rattle.std.proofs.Common.{◌≡◌, ℕ, zero, suc, ◌+◌, ◌*◌, ◌-◌, ◌/◌, ◌%◌, ◌^◌, ◌<◌, ◌≤◌, ◌↔◌, true, eqb, List, [], ◌∷◌, ◌++◌, length, get_or, take, drop, set, refl, sym, ap, ◌∙◌, subst, inl, inr, arith}
+use Rattle.std.proofs.Common.{◌≡◌, ℕ, zero, suc, ◌+◌, ◌*◌, ◌-◌, ◌/◌, ◌%◌, ◌^◌, ◌<◌, ◌≤◌, ◌↔◌, true, eqb, List, [], ◌∷◌, ◌++◌, length, get_or, drop, set, refl, sym, ap, ◌∙◌, subst, arith}
 use Rattle.std.specs.Prelude.{bit_or}
 use Rattle.std.proofs.Math.Nat.{lt-div-mul-add, div-eq_of_lt, mod-eq_of_lt, mod-add-div}
 use Rattle.std.proofs.lemmas.Bool.{eqb-true, eq-eqb}
@@ -7,7 +7,7 @@ use Rattle.std.proofs.lemmas.Nat.{pow_pos, pow-add, or_shifted, or_comm, or_lt, 
 use Rattle.std.proofs.lemmas.List.{drop_all, length_push, get_or_append_left, length-set, get_or_read}
 use Rattle.bit_vector.specs.Bits.{words_number, words_for, IsPacked}
 use Rattle.bit_vector.proofs.WordLemmas.{AreWords, words_number-lt, words_number-set, words_number-push}
-use Rattle.bit_vector.proofs.ReadLemmas.{words_number-at, from_place, shl_dropped, power_split}
+use Rattle.bit_vector.proofs.ReadLemmas.{words_number-at, from_place, shl_dropped}
 
 pub below_from_div : (n k : ℕ) → n / 2 ^ k ≡ 0 → n < 2 ^ k
 below_from_div n k e =
@@ -33,10 +33,9 @@ packed_none = packed_whole [] 0 (λ i. omega arith) refl refl
 
 pub packed_last : (ws : List ℕ) (len : ℕ) → AreWords ws → length ws ≡ words_for len → 0 < len % 64 → (eqb (get_or ws (len / 64) 0 / 2 ^ (len % 64)) 0 ≡ true) ↔ IsPacked ws len
 packed_last ws len h count pos =
-    let e = high_part ws len h count pos in
-    (
+    let e = high_part ws len h count pos in (
       λ t. record { count = count; fit = h; clear = below_from_div (words_number ws) len (e ∙ eqb-true _ _ t) },
-      λ p. eq-eqb _ _ (sym e ∙ div-eq_of_lt p.clear)
+      λ p. eq-eqb _ _ (sym e ∙ div-eq_of_lt p.clear),
     )
 
 pub last_clear : (ws : List ℕ) (len : ℕ) → IsPacked ws len → 0 < len % 64 → get_or ws (len / 64) 0 < 2 ^ (len % 64)

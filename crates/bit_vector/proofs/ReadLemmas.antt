@@ -1,8 +1,8 @@
 -- Bits that are read from one word or from two.
-use Rattle.std.proofs.Common.{◌≡◌, ℕ, zero, suc, ◌+◌, ◌*◌, ◌-◌, ◌/◌, ◌%◌, ◌^◌, ◌<◌, ◌≤◌, List, [], ◌∷◌, ◌++◌, length, get_or, take, drop, set, refl, sym, ap, ◌∙◌, subst, inl, inr, arith}
+use Rattle.std.proofs.Common.{◌≡◌, ℕ, ◌+◌, ◌*◌, ◌-◌, ◌/◌, ◌%◌, ◌^◌, ◌<◌, ◌≤◌, List, length, get_or, drop, sym, ap, ◌∙◌, subst, arith}
 use Rattle.std.specs.Prelude.{bit_or, bit_and}
 use Rattle.std.proofs.Math.Nat.{add-mul-mod_self_left, add-mul-div_left, mul-mod_left}
-use Rattle.std.proofs.lemmas.Nat.{pow_pos, pow-add, shr-shr, shl-shr, mod-pow-add, field_of, or_shifted, or_comm, and_mask, one_shl, shr_below}
+use Rattle.std.proofs.lemmas.Nat.{pow_pos, pow-add, shr-shr, shl-shr, mod-pow-add, or_shifted, or_comm, and_mask, one_shl, shr_below}
 use Rattle.std.proofs.lemmas.List.{drop_more}
 use Rattle.bit_vector.specs.Bits.{words_number}
 use Rattle.bit_vector.proofs.WordLemmas.{AreWords, words_number-drop}

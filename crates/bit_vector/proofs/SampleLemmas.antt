@@ -1,18 +1,18 @@
 -- Counts of ones over words, and the place of a one.
 use Rattle.std.proofs.Common.{◌≡◌, ℕ, zero, suc, ◌+◌, ◌*◌, ◌-◌, ◌/◌, ◌%◌, ◌^◌, ◌<◌, ◌≤◌, List, [], ◌∷◌, ◌++◌, Bool, length, get_or, take, drop, Option, Some, None, refl, sym, ap, ◌∙◌, subst, inl, inr, arith}
 use Rattle.std.specs.Prelude.{MatchOption}
-use Rattle.std.specs.List.{sum_by, slice_get}
+use Rattle.std.specs.List.{slice_get}
 use Rattle.std.specs.Int.{bit_at}
 use Rattle.std.specs.Int.RustNames.{count_ones}
 use Rattle.std.proofs.Math.Nat.{mod-one, mod-eq_of_lt, div-eq_of_lt}
 use Rattle.std.proofs.lemmas.Bool.{cases_lt, eq-eqb}
-use Rattle.std.proofs.lemmas.Nat.{pow-add, mod-pow-add, ones_cat, ones-le, mod_below, pow_pos, shr-shr}
-use Rattle.std.proofs.lemmas.List.{get_or_append_left, get_or_push, length_push, get_or_past}
+use Rattle.std.proofs.lemmas.Nat.{mod-pow-add, ones_cat, ones-le, mod_below, pow_pos}
+use Rattle.std.proofs.lemmas.List.{get_or_append_left, get_or_push, length_push}
 use Rattle.std.proofs.lemmas.List.Sums.{sum_by-cons, sum_by-take-le, sum_by_more}
-use Rattle.bit_vector.specs.Bits.{bits_of, number_of, words_number, words_from, words_for, packed, ones, places, places_from}
-use Rattle.bit_vector.specs.Samples.{all_ones, IsCounted, IsOneAt}
-use Rattle.bit_vector.proofs.BitLemmas.{length-bits_of, take-bits_of, bits_of-number_of, number_of-lt, ones-bits_of, get_or-bits_of, length-places_from, slice_get-places_from}
-use Rattle.bit_vector.proofs.WordLemmas.{AreWords, words_number-take, count_ones-words, words_number-lt}
+use Rattle.bit_vector.specs.Bits.{number_of, words_number, words_from, words_for, packed, ones, places}
+use Rattle.bit_vector.specs.Samples.{all_ones, IsOneAt}
+use Rattle.bit_vector.proofs.BitLemmas.{take-bits_of, bits_of-number_of, number_of-lt, ones-bits_of, get_or-bits_of, length-places_from, slice_get-places_from}
+use Rattle.bit_vector.proofs.WordLemmas.{AreWords, words_number-take, count_ones-words}
 use Rattle.bit_vector.proofs.ReadLemmas.{words_number-at, mod-add-multiple, bits_inside}
 
 pub no_ones : count_ones 0 ≡ 0
@@ -46,8 +46,8 @@ word_at ws w s h le lt =
     elim (cases_lt w (length ws)) [
       | inl within ↦ ap (λ (m : ℕ). m % 2 ^ s) (words_number-at ws w h within) ∙ mod-add-multiple (get_or ws w 0) (words_number (drop (w + 1) ws)) 64 s (omega arith)
       | inr past ↦
-        let none : s ≡ 0 = omega arith in
-        rw none (mod-one (words_number ws / 2 ^ (64 * w)) ∙ sym (mod-one (get_or ws w 0)))
+          let none : s ≡ 0 = omega arith in
+          rw none (mod-one (words_number ws / 2 ^ (64 * w)) ∙ sym (mod-one (get_or ws w 0)))
     ]
 
 pub ones_below_place : (ws : List ℕ) (at : ℕ) → AreWords ws → at ≤ 64 * length ws → count_ones (words_number ws % 2 ^ at) ≡ all_ones (take (at / 64) ws) + count_ones (get_or ws (at / 64) 0 % 2 ^ (at % 64))
@@ -82,10 +82,10 @@ count_pushed words counts new at total even so_far t e =
       before = λ b lt. elim (cases_lt b (length counts)) [
         | inl old ↦ get_or_append_left counts (total ∷ []) 0 b old ∙ so_far.before b old
         | inr last ↦
-          let same : length counts ≡ b = omega (arith, longer) in
-          let place : at ≡ 8 * b = omega (arith, so_far.len) in
-          get_or_push counts total 0 b same ∙ t ∙ ap (λ (k : ℕ). all_ones (take k words)) place
-      ]
+            let same : length counts ≡ b = omega (arith, longer) in
+            let place : at ≡ 8 * b = omega (arith, so_far.len) in
+            get_or_push counts total 0 b same ∙ t ∙ ap (λ (k : ℕ). all_ones (take k words)) place
+      ];
     } in
     subst (λ (l : List ℕ). IsSoFar words l (at + 1)) (sym e) more
 
@@ -144,9 +144,9 @@ within_bits n len p lt one =
     elim (cases_lt p len) [
       | inl less ↦ less
       | inr le ↦
-        let larger : 2 ^ len ≤ 2 ^ p = Rattle.std.proofs.Math.Nat.pow-le-pow_right (omega arith) le in
-        let none : n / 2 ^ p ≡ 0 = div-eq_of_lt (omega arith) in
-        absurd (omega (arith, one, none))
+          let larger : 2 ^ len ≤ 2 ^ p = Rattle.std.proofs.Math.Nat.pow-le-pow_right (omega arith) le in
+          let none : n / 2 ^ p ≡ 0 = div-eq_of_lt (omega arith) in
+          absurd (omega (arith, one, none))
     ]
 
 one_found : (bits : List Bool) (i p : ℕ) → IsOneAt (number_of bits) i p → slice_get (places bits) i ≡ Some p

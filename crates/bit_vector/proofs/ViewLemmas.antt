@@ -1,5 +1,5 @@
 -- What packed words are seen as.
-use Rattle.std.proofs.Common.{◌≡◌, ℕ, ◌+◌, ◌*◌, ◌-◌, ◌/◌, ◌%◌, ◌^◌, ◌<◌, ◌≤◌, List, length, take, drop, Bool, sym, ap, ◌∙◌, arith}
+use Rattle.std.proofs.Common.{◌≡◌, ℕ, ◌+◌, ◌-◌, ◌/◌, ◌%◌, ◌^◌, ◌≤◌, List, take, drop, Bool, sym, ap, ◌∙◌, arith}
 use Rattle.std.proofs.Math.Nat.{mod-eq_of_lt}
 use Rattle.bit_vector.specs.Bits.{bits_of, number_of, words_number, words_from, words_for, packed, IsPacked}
 use Rattle.bit_vector.proofs.BitLemmas.{length-bits_of, take-bits_of, drop-bits_of, number_of-bits_of}

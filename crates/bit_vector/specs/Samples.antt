@@ -4,7 +4,6 @@ use Rattle.std.specs.List.{sum_by}
 use Rattle.std.specs.Int.{bit_at}
 use Rattle.std.specs.Int.RustNames.{count_ones}
 use Rattle.bit_vector.specs.declared.TheConstants.{BLOCK, STEP}
-use Rattle.bit_vector.specs.Bits.{words_number}
 
 -- how many bits of the words are set
 abbrev pub all_ones : List ℕ → ℕ

@@ -1,10 +1,9 @@
 ghost use Rattle.std.specs.Prelude.{◌≡◌, ℕ, ◌+◌, ◌*◌, ◌-◌, ◌/◌, ◌%◌, ◌^◌, ◌<◌, ◌≤◌, ◌++◌, ◌↔◌, List, [], Bool, false, length, take, drop, slice_index_or, OnOk, OnErr, IfSome, IsSome};
 ghost use Rattle.bit_vector.specs.Bits.{bits_of, number_of, words_number, packed, IsPacked};
 
+use crate::words::{append, bits_at, is_packed};
 use std::alloc::{AllocError, AllocFailed, Global};
 use std::marker::Model;
-
-use crate::words::{append, bits_at, is_packed};
 
 /// Memory ran out.
 #[derive(Clone, Copy, Debug, PartialEq, Eq)]

@@ -13,3 +13,6 @@ pub use select::Selector;
 const BLOCK: usize = 8;
 // How many ones a block is noted for.
 const STEP: u64 = 512;
+
+#[cfg(test)]
+mod tests;

@@ -3,11 +3,10 @@ ghost use Rattle.std.specs.Int.RustNames.{count_ones};
 ghost use Rattle.bit_vector.specs.Bits.{words_number};
 ghost use Rattle.bit_vector.specs.Samples.{all_ones, IsCounted, IsHinted, IsOneAt};
 
-use std::alloc::Global;
-
 use crate::bits::NoMemory;
 use crate::words::low_bits;
 use crate::{BLOCK, STEP};
+use std::alloc::Global;
 
 /// The ones before each block of words, and at the end all of them.
 pub fn counts_of(alloc: Global, words: &[u64]) -> Result<Vec<u64>, NoMemory>

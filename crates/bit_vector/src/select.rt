@@ -2,11 +2,10 @@ ghost use Rattle.std.specs.Prelude.{◌≡◌, ℕ, ◌<◌, ◌≤◌, List, Bo
 ghost use Rattle.std.specs.List.{slice_get};
 ghost use Rattle.bit_vector.specs.Bits.{ones, places};
 
-use std::alloc::Global;
-use std::marker::Model;
-
 use crate::bits::{BitVec, NoMemory};
 use crate::samples::{counts_of, hints_of, ones_below, place_of};
+use std::alloc::Global;
+use std::marker::Model;
 
 /// Bits with the counts and places that make both questions cheap.
 #[derive(Drop)]

@@ -8,7 +8,11 @@ pub fn low_bits(word: u64, width: u32) -> u64
     requires { width ≤ 64 }
     ensures { result ≡ word % 2 ^ width }
 {
-    if width < 64 { word & ((1 << width) - 1) } else { word }
+    if width < 64 {
+        word & ((1 << width) - 1)
+    } else {
+        word
+    }
 }
 
 /// The bits from a place on, at most 64, as a number.
@@ -45,7 +49,12 @@ pub fn is_packed(words: &[u64], len: u64) -> bool
 }
 
 /// Appends the lowest bits of a value to bits that are packed; on want of memory none.
-pub fn append(words: &mut Vec<u64>, len: u64, value: u64, width: u32) -> Result<(), AllocFailed<u64>>
+pub fn append(
+    words: &mut Vec<u64>,
+    len: u64,
+    value: u64,
+    width: u32,
+) -> Result<(), AllocFailed<u64>>
     requires packed { IsPacked words.old.items len }
     requires some { 0 < width }
     requires wide { width ≤ 64 }

@@ -1,7 +1,4 @@
-use Rattle.std.proofs.Common.{◌≡◌, ℕ, ◌+◌, ◌-◌, ◌*◌, ◌/◌, ◌%◌, ◌^◌, ◌<◌, ◌≤◌, length, take, drop, slice_index}
-use Rattle.std.specs.Int.RustNames.{count_ones}
-use Rattle.bit_vector.specs.Bits.{words_number}
-use Rattle.bit_vector.specs.Samples.{all_ones, IsCounted, IsHinted, IsOneAt}
+use Rattle.std.proofs.Common.{◌-◌, ◌<◌, ◌≤◌, length, slice_index}
 use Rattle.bit_vector.proofs.samples.block_before.Given as goal
 
 abbrev pub invariant-loop-low : goal.invariant-loop-low

@@ -1,7 +1,4 @@
-use Rattle.std.proofs.Common.{◌≡◌, ℕ, ◌+◌, ◌-◌, ◌*◌, ◌/◌, ◌%◌, ◌^◌, ◌<◌, ◌≤◌, length, take, drop, slice_index}
-use Rattle.std.specs.Int.RustNames.{count_ones}
-use Rattle.bit_vector.specs.Bits.{words_number}
-use Rattle.bit_vector.specs.Samples.{all_ones, IsCounted, IsHinted, IsOneAt}
+use Rattle.std.proofs.Common.{◌≡◌, ℕ, ◌+◌, ◌-◌, ◌*◌, ◌^◌, ◌<◌, ◌≤◌, length, slice_index}
 use Rattle.bit_vector.proofs.samples.hints_of.Given as goal
 
 abbrev pub invariant-loop-block : goal.invariant-loop-block
@@ -11,7 +8,7 @@ invariant-loop-block l = record {
   most : l.next ≤ 2 ^ 43;
   before_next : slice_index l.counts l.block ≤ l.next;
   within : (j : ℕ) → j < length l.hints.items → slice_index l.hints.items j < length l.counts;
-  before : (j : ℕ) → j < length l.hints.items → slice_index l.counts (slice_index l.hints.items j) ≤ 512 * j
+  before : (j : ℕ) → j < length l.hints.items → slice_index l.counts (slice_index l.hints.items j) ≤ 512 * j;
 }
 
 abbrev pub decreases-loop-block : goal.decreases-loop-block

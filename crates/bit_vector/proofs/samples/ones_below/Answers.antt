@@ -1,7 +1,7 @@
-use Rattle.std.proofs.Common.{◌≡◌, ℕ, ◌/◌, ◌%◌, ◌^◌, List, get_or, take, sym, ap, ◌∙◌, arith}
+use Rattle.std.proofs.Common.{◌≡◌, ℕ, ◌/◌, ◌%◌, ◌^◌, get_or, take, ap, ◌∙◌, arith}
 use Rattle.std.specs.Int.RustNames.{count_ones}
 use Rattle.std.proofs.Math.Nat.{mod-one}
-use Rattle.std.proofs.lemmas.Nat.{ones-le, ones_le_self}
+use Rattle.std.proofs.lemmas.Nat.{ones-le}
 use Rattle.bit_vector.specs.Samples.{all_ones}
 use Rattle.bit_vector.proofs.SampleLemmas.{no_ones, all_ones-take-le, ones_below_place}
 use Rattle.bit_vector.proofs.samples.ones_below.Goals as goal

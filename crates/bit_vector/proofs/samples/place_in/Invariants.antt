@@ -1,7 +1,5 @@
-use Rattle.std.proofs.Common.{◌≡◌, ℕ, ◌+◌, ◌-◌, ◌*◌, ◌/◌, ◌%◌, ◌^◌, ◌<◌, ◌≤◌, length, take, drop, slice_index}
+use Rattle.std.proofs.Common.{◌≡◌, ◌+◌, ◌/◌, ◌%◌, ◌^◌, ◌<◌, ◌≤◌}
 use Rattle.std.specs.Int.RustNames.{count_ones}
-use Rattle.bit_vector.specs.Bits.{words_number}
-use Rattle.bit_vector.specs.Samples.{all_ones, IsCounted, IsHinted, IsOneAt}
 use Rattle.bit_vector.proofs.samples.place_in.Given as goal
 
 abbrev pub invariant-loop-span : goal.invariant-loop-span
@@ -10,7 +8,7 @@ invariant-loop-span l = record {
   some : 0 < l.span;
   rest_is : l.rest ≡ l.word / 2 ^ l.place;
   number : count_ones (l.word % 2 ^ l.place) + l.left ≡ l.i;
-  here : l.left < count_ones (l.rest % 2 ^ l.span)
+  here : l.left < count_ones (l.rest % 2 ^ l.span);
 }
 
 abbrev pub decreases-loop-span : goal.decreases-loop-span

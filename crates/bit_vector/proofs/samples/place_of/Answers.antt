@@ -1,4 +1,4 @@
-use Rattle.std.proofs.Common.{◌≡◌, ◌+◌, ◌*◌, take, arith}
+use Rattle.std.proofs.Common.{◌≡◌, ◌+◌, take, arith}
 use Rattle.bit_vector.specs.Samples.{all_ones}
 use Rattle.bit_vector.proofs.SampleLemmas.{one_among}
 use Rattle.bit_vector.proofs.samples.place_of.Goals as goal

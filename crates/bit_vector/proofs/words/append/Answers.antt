@@ -1,5 +1,5 @@
-use Rattle.std.proofs.Common.{◌<◌, ◌≤◌, arith}
-use Rattle.bit_vector.proofs.PackLemmas.{IsAppended, appended_whole, appended_within, appended_across}
+use Rattle.std.proofs.Common.{arith}
+use Rattle.bit_vector.proofs.PackLemmas.{appended_whole, appended_within, appended_across}
 use Rattle.bit_vector.proofs.words.append.Goals as goal
 
 pub returns-then-shift-eq0-clause-ok : goal.returns-then-shift-eq0-clause-ok

@@ -27,9 +27,8 @@ hints_of-requires-clause-most c = λ b.
 
 pub invariant_of-result : goal.invariant_of-result
 invariant_of-result c =
-    let n : length c.args.bits ≡ c.bits.inside.len = sym (ap length c.bits.view_is) ∙ length-bits_of c.bits.inside.len (words_number c.bits.inside.words.items) in
-    (
+    let n : length c.args.bits ≡ c.bits.inside.len = sym (ap length c.bits.view_is) ∙ length-bits_of c.bits.inside.len (words_number c.bits.inside.words.items) in (
       subst (λ (ws : List ℕ). IsCounted ws c.in_ok-counts.counts.items) c.words.ensures c.in_ok-counts.ensures,
       subst (λ (cs : List ℕ). IsHinted c.in_ok-hints.hints.items cs) c.deref.ensures.value c.in_ok-hints.ensures,
-      omega (arith, n, c.bits.invariant.1)
+      omega (arith, n, c.bits.invariant.1),
     )

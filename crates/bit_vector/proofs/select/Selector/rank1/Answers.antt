@@ -1,6 +1,6 @@
-use Rattle.std.proofs.Common.{◌≡◌, ◌≤◌, ◌%◌, ◌^◌, ℕ, List, Bool, length, take, sym, ap, ◌∙◌, arith}
+use Rattle.std.proofs.Common.{◌%◌, ◌^◌, ℕ, List, Bool, length, take, sym, ap, ◌∙◌, arith}
 use Rattle.std.specs.Int.RustNames.{count_ones}
-use Rattle.bit_vector.specs.Bits.{words_number, packed, ones}
+use Rattle.bit_vector.specs.Bits.{words_number, ones}
 use Rattle.bit_vector.proofs.SampleLemmas.{length-packed, words_number-packed, ones-take}
 use Rattle.bit_vector.proofs.select.Selector.rank1.Goals as goal
 

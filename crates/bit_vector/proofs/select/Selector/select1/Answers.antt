@@ -1,7 +1,7 @@
-use Rattle.std.proofs.Common.{◌≡◌, ◌≤◌, ℕ, List, Bool, length, sym, ap, subst, ◌∙◌, arith}
+use Rattle.std.proofs.Common.{◌≤◌, ℕ, List, Bool, length, ap, subst, ◌∙◌, arith}
 use Rattle.std.specs.Prelude.{MatchOption}
 use Rattle.std.specs.List.{slice_get}
-use Rattle.bit_vector.specs.Bits.{words_number, packed, places}
+use Rattle.bit_vector.specs.Bits.{words_number, places}
 use Rattle.bit_vector.specs.Samples.{all_ones, IsOneAt}
 use Rattle.bit_vector.proofs.SampleLemmas.{length-packed, select_is}
 use Rattle.bit_vector.proofs.select.Selector.select1.Goals as goal
