@@ -84,3 +84,18 @@ fn words_are_taken_if_they_fit(rt: HostRuntime) -> Result<(), Fail> {
     }
     Ok(())
 }
+
+#[test]
+fn widths(rt: HostRuntime) -> Result<(), Fail> {
+    for (width, value) in [(0, 0), (1, 1), (63, (1 << 63) - 1), (64, u64::MAX - 2)] {
+        let mut bits = BitVec::new(rt.alloc());
+        bits.push_bits(1, 1)?;
+        assert!(rt; width <= 64);
+        assert!(rt; width == 64 || value < 1 << width);
+        assert!(rt; bits.len() < 100);
+        bits.push_bits(value, width)?;
+        assert!(rt; 1 + u64::from(width) <= bits.len());
+        assert_eq!(rt; bits.get_bits(1, width), value, "{width}");
+    }
+    Ok(())
+}

@@ -1,5 +1,5 @@
 -- Bits that are made value by value.
-use Rattle.std.proofs.Common.{◌≡◌, ℕ, zero, suc, ◌+◌, ◌*◌, ◌-◌, ◌/◌, ◌%◌, ◌^◌, ◌<◌, ◌≤◌, Bool, true, false, List, [], ◌∷◌, ◌++◌, length, get_or, take, drop, Result, Ok, Err, refl, sym, ap, ◌∙◌, subst, append_assoc, inl, inr, arith}
+use Rattle.std.proofs.Common.{◌≡◌, ℕ, zero, suc, ◌+◌, ◌*◌, ◌/◌, ◌%◌, ◌^◌, ◌<◌, ◌≤◌, Bool, true, false, List, [], ◌∷◌, ◌++◌, length, get_or, take, Result, Ok, Err, refl, sym, ap, ◌∙◌, append_assoc, inl, inr, arith}
 use Rattle.std.specs.Prelude.{OnOk}
 use Rattle.std.proofs.lemmas.Bool.{cases_lt}
 use Rattle.std.proofs.lemmas.List.{nil_from_length, append-nil, length-append, take_more, length-take-le}
@@ -97,7 +97,7 @@ high_step w vs i gap high mid new lt p place m e =
     let there : 0 + length (high ++ bits_of gap 0) ≡ v / 2 ^ w + (0 + length (take i vs)) = omega (arith, size, few) in
     record {
       ones_at = ap places whole ∙ places_from-one 0 (high ++ bits_of gap 0) ∙ ap (λ (ps : List ℕ). ps ++ (0 + length (high ++ bits_of gap 0)) ∷ []) (places_from-clear 0 gap high ∙ p.ones_at)
-        ∙ ap (λ (x : ℕ). high_places w 0 (take i vs) ++ x ∷ []) there ∙ sym (high_places-push w 0 (take i vs) v) ∙ ap (λ (xs : List ℕ). high_places w 0 xs) (sym (take_more vs i 0 lt));
+          ∙ ap (λ (x : ℕ). high_places w 0 (take i vs) ++ x ∷ []) there ∙ sym (high_places-push w 0 (take i vs) v) ∙ ap (λ (xs : List ℕ). high_places w 0 xs) (sym (take_more vs i 0 lt));
       len = ap length whole ∙ omega (arith, length-append (high ++ bits_of gap 0) (bits_of 1 1), length-bits_of 1 1, size, ap (λ (x : ℕ). x / 2 ^ w) last);
     }
 

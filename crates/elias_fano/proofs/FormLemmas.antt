@@ -1,17 +1,16 @@
 -- What each step of reading gives, and how a fault of one step becomes that of the whole.
-use Rattle.std.proofs.Common.{◌≡◌, ℕ, zero, suc, ◌+◌, ◌*◌, ◌-◌, ◌/◌, ◌%◌, ◌^◌, ◌<◌, ◌≤◌, Bool, true, false, cond, eqb, ltb, List, [], ◌∷◌, ◌++◌, length, get_or, take, drop, Result, Ok, Err, refl, sym, ap, ◌∙◌, subst, inl, inr, arith}
-use Rattle.std.specs.Prelude.{not, ◌&&◌, ◌⊎◌}
+use Rattle.std.proofs.Common.{◌≡◌, ℕ, zero, suc, ◌+◌, ◌*◌, ◌-◌, ◌^◌, ◌<◌, ◌≤◌, Bool, true, false, ltb, List, [], ◌∷◌, ◌++◌, length, get_or, take, drop, Ok, Err, refl, sym, ap, ◌∙◌, subst, inl, inr, arith}
+use Rattle.std.specs.Prelude.{◌⊎◌}
 use Rattle.std.specs.Int.{w64, from_le_bytes}
-use Rattle.std.proofs.lemmas.Bool.{cases_lt, cases_eq, lt-ltb, le-ltb, eq-eqb, ne_eqb}
+use Rattle.std.proofs.lemmas.Bool.{cases_lt, lt-ltb, le-ltb, eq-eqb, ne_eqb}
 use Rattle.std.proofs.lemmas.List.{drop-drop, take_rest}
 use Rattle.bit_vector.specs.Bits.{bits_of, words_number, words_for, ones, IsPacked}
 use Rattle.bit_vector.proofs.PackLemmas.{packed_none}
-use Rattle.elias_fano.specs.declared.fault.FormFault.{FormFault}
 use Rattle.elias_fano.specs.declared.fault.ReadErr.{ReadErr}
 use Rattle.elias_fano.specs.declared.fault.ReadErr.TheVariants as errors
 use Rattle.elias_fano.specs.Spelling.{low_width, last_of, rises, high_len}
 use Rattle.elias_fano.specs.Values.{values_of}
-use Rattle.elias_fano.specs.Reading.{◌>>=◌, Fails, fault, number_at, words_in, run_at, checked, parts_at, list_at}
+use Rattle.elias_fano.specs.Reading.{Fails, fault, number_at, words_in, run_at, checked, parts_at, list_at}
 
 -- each byte is below 256
 abbrev pub IsBytes : List ℕ → Type 0

@@ -1,24 +1,24 @@
 -- What is read is what is spelled, and what is spelled is read again, whatever follows.
-use Rattle.std.proofs.Common.{◌≡◌, ℕ, zero, suc, ◌+◌, ◌*◌, ◌-◌, ◌/◌, ◌%◌, ◌^◌, ◌<◌, ◌≤◌, Bool, true, false, cond, eqb, ltb, List, [], ◌∷◌, ◌++◌, length, get_or, take, drop, Result, Ok, Err, refl, sym, ap, ◌∙◌, subst, append_assoc, inl, inr, arith}
+use Rattle.std.proofs.Common.{◌≡◌, ℕ, zero, suc, ◌+◌, ◌*◌, ◌-◌, ◌^◌, ◌<◌, ◌≤◌, Bool, true, false, cond, eqb, ltb, List, [], ◌∷◌, ◌++◌, length, get_or, take, drop, Result, Ok, Err, refl, sym, ap, ◌∙◌, subst, append_assoc, inl, inr, arith}
 use Rattle.std.specs.Prelude.{not, ◌&&◌, ◌⊎◌}
 use Rattle.std.specs.List.{flat_map}
-use Rattle.std.specs.Int.{w64, from_le_bytes, to_le_bytes}
+use Rattle.std.specs.Int.{w64, from_le_bytes}
 use Rattle.std.proofs.lemmas.Bool.{cases_lt, cases_eq, eqb-true, ltb-false, ltb-true, lt-ltb, le-ltb}
 use Rattle.std.proofs.lemmas.Nat.{le_bytes_8, from_le_bytes-to_le_bytes_8}
 use Rattle.std.proofs.lemmas.List.{drop-drop, take_rest, take-append-drop, drop_at, length-append, length-take, nil_from_length}
-use Rattle.bit_vector.specs.Bits.{bits_of, number_of, words_number, words_for, packed, ones, IsPacked}
+use Rattle.bit_vector.specs.Bits.{bits_of, words_number, words_for, packed, ones, IsPacked}
 use Rattle.bit_vector.proofs.BitLemmas.{length-bits_of, bits_of-number_of, number_of-lt}
 use Rattle.bit_vector.proofs.ViewLemmas.{packed-bits_of}
 use Rattle.bit_vector.proofs.SampleLemmas.{length-packed, AreWords-packed, words_number-packed}
 use Rattle.elias_fano.specs.declared.fault.FormFault.{FormFault}
 use Rattle.elias_fano.specs.declared.fault.ReadErr.{ReadErr}
 use Rattle.elias_fano.specs.declared.fault.ReadErr.TheVariants as errors
-use Rattle.elias_fano.specs.Spelling.{number, run, low_width, last_of, rises, low_bits, high_places, marks, high_len, text_at, ef_text, IsRising}
+use Rattle.elias_fano.specs.Spelling.{number, run, low_width, last_of, rises, low_bits, high_places, marks, high_len, ef_text, IsRising}
 use Rattle.elias_fano.specs.Values.{values_of, AreParts, AreValues}
 use Rattle.elias_fano.specs.Reading.{◌>>=◌, Fails, fault, number_at, words_in, run_at, checked, parts_at, list_at, IsSpelled}
 use Rattle.elias_fano.proofs.ValueLemmas.{last_of-nil}
 use Rattle.elias_fano.proofs.TextLemmas.{values-length, values-rising, ef_text-values, list-values}
-use Rattle.elias_fano.proofs.FormLemmas.{IsBytes, IsBytes-drop, IsBytes-take, length-words_in, packed_if_clear, number_lt, number_at-ok, run_at-ok, checked-ok, parts_at-ok, list_at-parts}
+use Rattle.elias_fano.proofs.FormLemmas.{IsBytes, IsBytes-drop, IsBytes-take, packed_if_clear, number_lt, number_at-ok, run_at-ok, checked-ok, parts_at-ok, list_at-parts}
 
 -- the value of a step that did not fail
 bind_ok : {A B : Type 0} (r : Result A FormFault) (f : A → Result B FormFault) (y : B) → (r >>= f) ≡ Ok y → (x : A) × (r ≡ Ok x) × (f x ≡ Ok y)
@@ -56,10 +56,9 @@ number_takes at bytes n rest fits e =
     let both = ok_is (from_le_bytes w64 (take 8 bytes), drop 8 bytes) (n, rest) g.1 in
     let n-is : from_le_bytes w64 (take 8 bytes) ≡ n = ap (λ (p : ℕ × List ℕ). p.0) both in
     let rest-is : drop 8 bytes ≡ rest = ap (λ (p : ℕ × List ℕ). p.1) both in
-    let front : number n ≡ take 8 bytes = le_bytes_8 (take 8 bytes) n (omega (arith, length-take 8 bytes)) (IsBytes-take 8 bytes fits) (sym n-is) in
-    (
+    let front : number n ≡ take 8 bytes = le_bytes_8 (take 8 bytes) n (omega (arith, length-take 8 bytes)) (IsBytes-take 8 bytes fits) (sym n-is) in (
       record { parts = sym (ap (λ (t : List ℕ). t ++ rest) front ∙ ap (λ (t : List ℕ). take 8 bytes ++ t) (sym rest-is) ∙ take-append-drop 8 bytes); rest_fits = subst (λ (t : List ℕ). IsBytes t) rest-is (IsBytes-drop 8 bytes fits) },
-      subst (λ (m : ℕ). m < 2 ^ 64) n-is (number_lt (take 8 bytes) (IsBytes-take 8 bytes fits))
+      subst (λ (m : ℕ). m < 2 ^ 64) n-is (number_lt (take 8 bytes) (IsBytes-take 8 bytes fits)),
     )
 
 pub number_again : (at n : ℕ) (rest : List ℕ) → n < 2 ^ 64 → number_at at (number n ++ rest) ≡ Ok (n, rest)
@@ -106,7 +105,7 @@ run_takes at len bytes bits rest fits e =
     let text : flat_map number (packed (bits_of len n)) ++ drop (8 * count) bytes ≡ bytes = ap (λ (xs : List ℕ). flat_map number xs ++ drop (8 * count) bytes) (packed-bits_of ws len packing) ∙ words_written count bytes fits long in
     let taken : Takes bytes (flat_map number (packed (bits_of len n))) (drop (8 * count) bytes) = record { parts = sym text; rest_fits = IsBytes-drop (8 * count) bytes fits } in
     subst (λ (t : List ℕ). Takes bytes (flat_map number (packed bits)) t × (length bits ≡ len)) rest-is
-      (subst (λ (bs : List Bool). Takes bytes (flat_map number (packed bs)) (drop (8 * count) bytes) × (length bs ≡ len)) bits-is (taken, length-bits_of len n))
+    (subst (λ (bs : List Bool). Takes bytes (flat_map number (packed bs)) (drop (8 * count) bytes) × (length bs ≡ len)) bits-is (taken, length-bits_of len n))
 
 pub run_again : (at : ℕ) (bits : List Bool) (rest : List ℕ) → run_at at (length bits) (run bits ++ rest) ≡ Ok (bits, rest)
 unfolding run
@@ -149,11 +148,11 @@ parts_take at count last bytes vs rest fits few small e =
     let whole : AreValues count last w low high = record { parts = shape; fits = small; rising = Rattle.std.proofs.lemmas.Bool.not-false _ h.0; last_is = eqb-true _ _ k.0 } in
     let both = Takes-then bytes (run low) a.0.1 (run high) b.0.1 t0.0 t1.0 in
     let text : number last ++ bytes ≡ ef_text got ++ b.0.1 =
-      ap (λ (t : List ℕ). number last ++ t) both.parts ∙ sym (append_assoc (number last) (run low ++ run high) b.0.1) ∙ ap (λ (t : List ℕ). t ++ b.0.1) (sym (append_assoc (number last) (run low) (run high)) ∙ sym (ef_text-values count last w low high whole)) in
+    ap (λ (t : List ℕ). number last ++ t) both.parts ∙ sym (append_assoc (number last) (run low ++ run high) b.0.1) ∙ ap (λ (t : List ℕ). t ++ b.0.1) (sym (append_assoc (number last) (run low) (run high)) ∙ sym (ef_text-values count last w low high whole)) in
     let made : IsRising got × (length got ≡ count) × (number last ++ bytes ≡ ef_text got ++ b.0.1) = (values-rising count last w low high whole, values-length count last w low high shape, text) in
     let both-are = ok_is (c.0, b.0.1) (vs, rest) c.2 in
     subst (λ (p : List ℕ × List ℕ). IsRising p.0 × (length p.0 ≡ count) × (number last ++ bytes ≡ ef_text p.0 ++ p.1)) both-are
-      (subst (λ (xs : List ℕ). IsRising xs × (length xs ≡ count) × (number last ++ bytes ≡ ef_text xs ++ b.0.1)) k.1 made)
+    (subst (λ (xs : List ℕ). IsRising xs × (length xs ≡ count) × (number last ++ bytes ≡ ef_text xs ++ b.0.1)) k.1 made)
 
 pub list_takes : (at count : ℕ) (bytes vs rest : List ℕ) → IsBytes bytes → count ≤ 2 ^ 36 → list_at at count bytes ≡ Ok (vs, rest) → IsTaken bytes count vs rest
 unfolding list_at
@@ -175,7 +174,7 @@ list_again at vs rest r =
     let v = list-values vs r in
     let after : List ℕ = run low ++ (run high ++ rest) in
     let text : ef_text vs ++ rest ≡ number last ++ after =
-      append_assoc (number last ++ run low) (run high) rest ∙ append_assoc (number last) (run low) (run high ++ rest) in
+    append_assoc (number last ++ run low) (run high) rest ∙ append_assoc (number last) (run low) (run high ++ rest) in
     let first = number_again at last after r.fits in
     let either : ((count ≡ 0) × (last ≡ 0)) ⊎ (count ≡ 0 → ⊥) = elim (cases_eq count 0) [
       | inl none ↦ inl (none, ap (λ (xs : List ℕ). last_of 0 xs) (nil_from_length vs none) ∙ last_of-nil 0)
@@ -183,9 +182,9 @@ list_again at vs rest r =
     ] in
     let lows : run_at (at + 8) (count * w) after ≡ Ok (low, run high ++ rest) = ap (λ (k : ℕ). run_at (at + 8) k after) (sym v.0.low_len) ∙ run_again (at + 8) low (run high ++ rest) in
     let highs : run_at (at + 8 + 8 * words_for (count * w)) (high_len count last w) (run high ++ rest) ≡ Ok (high, rest) =
-      ap (λ (k : ℕ). run_at (at + 8 + 8 * words_for (count * w)) k (run high ++ rest)) (sym v.0.high_len_is) ∙ run_again (at + 8 + 8 * words_for (count * w)) high rest in
+    ap (λ (k : ℕ). run_at (at + 8 + 8 * words_for (count * w)) k (run high ++ rest)) (sym v.0.high_len_is) ∙ run_again (at + 8 + 8 * words_for (count * w)) high rest in
     let checks : checked at (at + 8 + 8 * words_for (count * w)) count last w low high ≡ Ok vs =
-      checked-ok at (at + 8 + 8 * words_for (count * w)) count last w low high v.0.ones_are (ap (λ (xs : List ℕ). rises 0 xs) v.1 ∙ r.rising) (ap (λ (xs : List ℕ). last_of 0 xs) v.1) ∙ ap (λ (xs : List ℕ). Ok xs) v.1 in
+    checked-ok at (at + 8 + 8 * words_for (count * w)) count last w low high v.0.ones_are (ap (λ (xs : List ℕ). rises 0 xs) v.1 ∙ r.rising) (ap (λ (xs : List ℕ). last_of 0 xs) v.1) ∙ ap (λ (xs : List ℕ). Ok xs) v.1 in
     ap (λ (t : List ℕ). list_at at count t) text
     ∙ list_at-parts at count last (number last ++ after) after first either
     ∙ parts_at-ok at count last w after low high (run high ++ rest) rest vs lows highs checks
@@ -207,10 +206,9 @@ run_len at len bytes bits rest e =
 -- the rest of the bytes stands behind what was taken
 rest_place : (bytes text rest : List ℕ) (at : ℕ) → at ≤ length bytes → drop at bytes ≡ text ++ rest → (length bytes ≡ at + length text + length rest) × (rest ≡ drop (at + length text) bytes)
 rest_place bytes text rest at le e =
-    let n = ap length e in
-    (
+    let n = ap length e in (
       omega (arith, n, Rattle.std.proofs.lemmas.List.length-drop at bytes, length-append text rest),
-      sym (sym (drop-drop (length text) at bytes) ∙ ap (λ (t : List ℕ). drop (length text) t) e ∙ drop_at text rest (length text) refl)
+      sym (sym (drop-drop (length text) at bytes) ∙ ap (λ (t : List ℕ). drop (length text) t) e ∙ drop_at text rest (length text) refl),
     )
 
 pub spelled_at : (bytes : List ℕ) (at count : ℕ) (vs rest : List ℕ) → at ≤ length bytes → IsTaken (drop at bytes) count vs rest
@@ -234,3 +232,9 @@ spelled_same bytes at count vs next us rest s e le =
     let n = rest_place bytes (ef_text vs) (drop next bytes) at le s.text in
     let place : next ≡ length bytes - length rest = omega (arith, n.0, s.next_is, ap length after) in
     ap (λ (x : List ℕ). done {A = List ℕ × ℕ} (x, next)) same ∙ ap (λ (k : ℕ). done {A = List ℕ × ℕ} (us, k)) place
+
+pub spelled_once : (bytes : List ℕ) (at count : ℕ) (vs us : List ℕ) (m n : ℕ) → IsSpelled bytes at count vs m → IsSpelled bytes at count us n → (vs ≡ us) × (m ≡ n)
+spelled_once bytes at count vs us m n s t =
+    let both = ok_is {A = List ℕ × List ℕ} (vs, drop m bytes) (us, drop n bytes) (sym (spelled_again bytes at count vs m s) ∙ spelled_again bytes at count us n t) in
+    let same : vs ≡ us = ap (λ (p : List ℕ × List ℕ). p.0) both in
+    (same, s.next_is ∙ ap (λ (xs : List ℕ). at + length (ef_text xs)) same ∙ sym t.next_is)

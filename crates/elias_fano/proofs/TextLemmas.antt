@@ -1,12 +1,10 @@
 -- A list and the bits that it is written in.
-use Rattle.std.proofs.Common.{◌≡◌, ℕ, zero, suc, ◌+◌, ◌*◌, ◌-◌, ◌/◌, ◌%◌, ◌^◌, ◌<◌, ◌≤◌, Bool, true, false, cond, eqb, List, [], ◌∷◌, ◌++◌, length, get_or, take, drop, refl, sym, ap, ◌∙◌, subst, inl, inr, arith}
-use Rattle.std.specs.Prelude.{◌||◌}
-use Rattle.std.proofs.Math.Nat.{add-mul-div_right, add-mul-mod_self_right, mod-eq_of_lt, div-eq_of_lt}
-use Rattle.std.proofs.lemmas.Bool.{cases_lt, cases_eq, eq-eqb, ne_eqb}
-use Rattle.std.proofs.lemmas.Nat.{shr_split, shr_high, pow_pos}
+use Rattle.std.proofs.Common.{◌≡◌, ℕ, zero, suc, ◌+◌, ◌*◌, ◌-◌, ◌/◌, ◌%◌, ◌^◌, ◌<◌, ◌≤◌, Bool, true, false, List, [], ◌∷◌, ◌++◌, length, take, drop, refl, sym, ap, ◌∙◌, inl, inr, arith}
+use Rattle.std.proofs.lemmas.Bool.{cases_lt, eq-eqb, ne_eqb}
+use Rattle.std.proofs.lemmas.Nat.{shr_split, shr_high}
 use Rattle.std.proofs.lemmas.List.{append-nil, take-append-drop, take_at, drop_at, length-take, length-drop, length-append}
-use Rattle.bit_vector.specs.Bits.{bits_of, number_of, ones, places_from, places}
-use Rattle.bit_vector.proofs.BitLemmas.{length-bits_of, bits_of-append, bits_of-number_of, number_of-bits_of, number_of-lt, length-places_from}
+use Rattle.bit_vector.specs.Bits.{bits_of, number_of, places_from, places}
+use Rattle.bit_vector.proofs.BitLemmas.{length-bits_of, bits_of-append, bits_of-number_of, number_of-bits_of, length-places_from}
 use Rattle.elias_fano.specs.Spelling.{last_of, rises, low_bits, high_places, is_among, marks, high_len, low_width, ef_text, text_at, number, run, IsRising}
 use Rattle.elias_fano.specs.Values.{joined, values_of, AreParts, AreValues}
 use Rattle.elias_fano.proofs.ValueLemmas.{low-lt, length-joined, rises-parts, rises-yes, bound-le-last}
@@ -23,7 +21,7 @@ low_bits-joined w k [] low e = sym (Rattle.std.proofs.lemmas.List.nil_from_lengt
 low_bits-joined w k (p ∷ ps) low e =
     let size : length (take w low) ≡ w = omega (arith, length-take w low, e) in
     let first : bits_of w ((p - k) * 2 ^ w + number_of (take w low)) ≡ take w low =
-      bits_of-high w (number_of (take w low)) (p - k) (low-lt w low) ∙ ap (λ (j : ℕ). bits_of j (number_of (take w low))) (sym size) ∙ bits_of-number_of (take w low) in
+    bits_of-high w (number_of (take w low)) (p - k) (low-lt w low) ∙ ap (λ (j : ℕ). bits_of j (number_of (take w low))) (sym size) ∙ bits_of-number_of (take w low) in
     let others = low_bits-joined w (k + 1) ps (drop w low) (omega (arith, length-drop w low, e)) in
     ap (λ (bs : List Bool). bs ++ low_bits w (joined w (k + 1) ps (drop w low))) first ∙ ap (λ (bs : List Bool). take w low ++ bs) others ∙ take-append-drop w low
 
@@ -114,16 +112,16 @@ places_from-marks w k d at (suc n) (v ∷ vs) h low high =
     let more = shr-mono d v w p.0 in
     elim (cases_lt at (v / 2 ^ w + k)) [
       | inl lt ↦
-        rw (ne_eqb at (v / 2 ^ w + k) (λ e. omega (arith, e)), high_places-before w (k + 1) v at vs p.1 (omega arith))
-           (places_from-marks w k v (at + 1) n (v ∷ vs) (rises-yes v v vs (omega arith) ∙ p.1) (omega arith) (omega (arith, high)))
+          rw (ne_eqb at (v / 2 ^ w + k) (λ e. omega (arith, e)), high_places-before w (k + 1) v at vs p.1 (omega arith))
+          (places_from-marks w k v (at + 1) n (v ∷ vs) (rises-yes v v vs (omega arith) ∙ p.1) (omega arith) (omega (arith, high)))
       | inr le ↦
-        let here : at ≡ v / 2 ^ w + k = omega (arith, more) in
-        let place = v / 2 ^ w + k in
-        let others = high_places w (k + 1) vs in
-        rw (eq-eqb at place here)
-           (ap (λ (x : ℕ). x ∷ places_from (at + 1) (marks (at + 1) n (place ∷ others))) here
-           ∙ ap (λ (ps : List ℕ). place ∷ ps) (ap (λ (bs : List Bool). places_from (at + 1) bs) (marks-passed (at + 1) n place others (omega arith))
-             ∙ places_from-marks w (k + 1) v (at + 1) n vs p.1 (omega (arith, here)) (omega (arith, high, here))))
+          let here : at ≡ v / 2 ^ w + k = omega (arith, more) in
+          let place = v / 2 ^ w + k in
+          let others = high_places w (k + 1) vs in
+          rw (eq-eqb at place here)
+          (ap (λ (x : ℕ). x ∷ places_from (at + 1) (marks (at + 1) n (place ∷ others))) here
+          ∙ ap (λ (ps : List ℕ). place ∷ ps) (ap (λ (bs : List Bool). places_from (at + 1) bs) (marks-passed (at + 1) n place others (omega arith))
+          ∙ places_from-marks w (k + 1) v (at + 1) n vs p.1 (omega (arith, here)) (omega (arith, high, here))))
     ]
 
 -- ---- the whole list
@@ -142,7 +140,7 @@ ef_text-values count last w low high v =
     let lows : low_bits w vs ≡ low = low_bits-joined w 0 (places high) low size in
     let tall : high_len (length vs) last w ≡ length high = ap (λ (k : ℕ). high_len k last w) n ∙ sym v.parts.high_len_is in
     let highs : marks 0 (high_len (length vs) last w) (high_places w 0 vs) ≡ high =
-      ap (λ (ps : List ℕ). marks 0 (high_len (length vs) last w) ps) (high_places-joined w 0 0 high low (omega arith)) ∙ ap (λ (k : ℕ). marks 0 k (places high)) tall ∙ marks-places_from 0 high in
+    ap (λ (ps : List ℕ). marks 0 (high_len (length vs) last w) ps) (high_places-joined w 0 0 high low (omega arith)) ∙ ap (λ (k : ℕ). marks 0 k (places high)) tall ∙ marks-places_from 0 high in
     ap (λ (u : ℕ). text_at u (low_width (length vs) (last_of 0 vs)) vs) v.last_is
     ∙ ap (λ (k : ℕ). text_at last k vs) wide
     ∙ ap (λ (bs : List Bool). number last ++ run bs ++ run (marks 0 (high_len (length vs) last w) (high_places w 0 vs))) lows
@@ -154,8 +152,7 @@ list-values vs r =
     let last = last_of 0 vs in
     let w = low_width (length vs) last in
     let n = high_len (length vs) last w in
-    let found : places (marks 0 n (high_places w 0 vs)) ≡ high_places w 0 vs = places_from-marks w 0 0 0 n vs r.rising (omega arith) (omega arith) in
-    (
+    let found : places (marks 0 n (high_places w 0 vs)) ≡ high_places w 0 vs = places_from-marks w 0 0 0 n vs r.rising (omega arith) (omega arith) in (
       record {
         few = r.few;
         wide = refl;
@@ -163,7 +160,7 @@ list-values vs r =
         high_len_is = length-marks 0 n (high_places w 0 vs);
         ones_are = sym (length-places_from 0 (marks 0 n (high_places w 0 vs))) ∙ ap length found ∙ length-high_places w 0 vs;
       },
-      ap (λ (ps : List ℕ). joined w 0 ps (low_bits w vs)) found ∙ joined-high_places w 0 vs
+      ap (λ (ps : List ℕ). joined w 0 ps (low_bits w vs)) found ∙ joined-high_places w 0 vs,
     )
 
 pub values-rising : (count last w : ℕ) (low high : List Bool) → AreValues count last w low high → IsRising (values_of w low high)

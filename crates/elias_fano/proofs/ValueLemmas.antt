@@ -1,11 +1,11 @@
 -- One value from the place of its one and its low bits; values in order.
-use Rattle.std.proofs.Common.{◌≡◌, ℕ, zero, suc, ◌+◌, ◌*◌, ◌-◌, ◌/◌, ◌%◌, ◌^◌, ◌<◌, ◌≤◌, Bool, true, false, cond, eqb, leb, List, [], ◌∷◌, ◌++◌, length, get_or, take, drop, Option, Some, None, refl, sym, ap, ◌∙◌, subst, inl, inr, arith}
-use Rattle.std.specs.Prelude.{◌&&◌, ◌⊎◌, IsSome}
+use Rattle.std.proofs.Common.{◌≡◌, ℕ, zero, suc, ◌+◌, ◌*◌, ◌-◌, ◌/◌, ◌%◌, ◌^◌, ◌<◌, ◌≤◌, Bool, true, false, leb, List, [], ◌∷◌, length, get_or, take, drop, Some, None, refl, sym, ap, ◌∙◌, inl, inr, arith}
+use Rattle.std.specs.Prelude.{◌⊎◌, IsSome}
 use Rattle.std.specs.List.{slice_get}
 use Rattle.std.proofs.Math.Nat.{pow-le-pow_right}
 use Rattle.std.proofs.lemmas.Nat.{mul-le, shr_high, mod_low, shr_split}
 use Rattle.std.proofs.lemmas.Bool.{cases_lt, cases_order, and_parts, leb-true, le-leb, lt-leb}
-use Rattle.std.proofs.lemmas.List.{drop-drop, drop_more, length-take, length-drop}
+use Rattle.std.proofs.lemmas.List.{drop-drop, drop_more, length-take}
 use Rattle.bit_vector.specs.Bits.{number_of, places_from}
 use Rattle.bit_vector.proofs.BitLemmas.{number_of-lt}
 use Rattle.elias_fano.specs.Spelling.{last_of, rises}
@@ -121,15 +121,15 @@ pub parts-le : (a b m n w : ℕ) → n < 2 ^ w → ((a < b) ⊎ ((a ≡ b) × (m
 parts-le a b m n w small h =
     elim (cases_order a b) [
       | inl e ↦
-        elim (cases_lt m n) [
-          | inl lt ↦ absurd (h (inr (e, lt)))
-          | inr le ↦ omega (arith, ap (λ (q : ℕ). q * 2 ^ w) e)
-        ]
+          elim (cases_lt m n) [
+            | inl lt ↦ absurd (h (inr (e, lt)))
+            | inr le ↦ omega (arith, ap (λ (q : ℕ). q * 2 ^ w) e)
+          ]
       | inr rest ↦
-        elim rest [
-          | inl lt ↦ absurd (h (inl lt))
-          | inr gt ↦ omega (arith, mul-le (b + 1) (2 ^ w) a (2 ^ w) (omega arith) (omega arith))
-        ]
+          elim rest [
+            | inl lt ↦ absurd (h (inl lt))
+            | inr gt ↦ omega (arith, mul-le (b + 1) (2 ^ w) a (2 ^ w) (omega arith) (omega arith))
+          ]
     ]
 
 pub parts-of : (h l w n : ℕ) → l < 2 ^ w → h * 2 ^ w + l ≡ n → (h ≡ n / 2 ^ w) × (l ≡ n % 2 ^ w)

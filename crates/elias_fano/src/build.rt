@@ -2,9 +2,8 @@ ghost use Rattle.std.specs.Prelude.{◌≡◌, ◌+◌, ◌/◌, ◌^◌, ◌<�
 ghost use Rattle.bit_vector.specs.Bits.{bits_of, places};
 ghost use Rattle.elias_fano.specs.Spelling.{last_of, rises, low_bits, high_places, high_len};
 
-use std::alloc::Global;
-
 use bit_vector::{BitVec, NoMemory};
+use std::alloc::Global;
 
 // Appends clear bits.
 fn push_clear(bits: &mut BitVec, count: u64) -> Result<(), NoMemory>

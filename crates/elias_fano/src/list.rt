@@ -4,15 +4,14 @@ ghost use Rattle.elias_fano.specs.Spelling.{rises, ef_text, IsRising};
 ghost use Rattle.elias_fano.specs.Values.{values_of, AreValues};
 ghost use Rattle.elias_fano.specs.Reading.{Gives, list_at, IsSpelled};
 
-use std::alloc::Global;
-use std::marker::Model;
-
 use crate::build::{high_part, last_value, low_part};
 use crate::fault::ReadErr;
 use crate::parts::{part_at, width_of};
 use crate::reading::list_of;
 use crate::writing::put_list;
 use bit_vector::{BitVec, NoMemory, Selector};
+use std::alloc::Global;
+use std::marker::Model;
 
 /// At most 2^36 numbers that don't fall, each to be read at once, in about two bits a number and the
 /// digits of the mean step (Elias 1974, Fano 1971).
@@ -37,7 +36,13 @@ impl Model for EliasFano {
 }
 
 impl EliasFano {
-    pub(crate) fn from_parts(count: u64, last: u64, width: u32, low: BitVec, high: Selector) -> EliasFano
+    pub(crate) fn from_parts(
+        count: u64,
+        last: u64,
+        width: u32,
+        low: BitVec,
+        high: Selector,
+    ) -> EliasFano
         requires { AreValues count last width low high }
         ensures { result ≡ values_of width low high }
     {
@@ -110,6 +115,9 @@ impl EliasFano {
         // What is spelled there is read, unless memory runs out.
         ensures only { (vs : List ℕ) (next : ℕ) → IsSpelled bytes.now at count vs next
             → Gives {Y = List ℕ × ℕ} (λ x. (x.0, x.1)) result (Ok (vs, next)) }
+        // No other list of that count is spelled there, so no spelling begins another of the same count.
+        ensures one { (vs us : List ℕ) (m n : ℕ) → IsSpelled bytes.now at count vs m
+            → IsSpelled bytes.now at count us n → (vs ≡ us) × (m ≡ n) }
         // Which fault it is: the first one.
         ensures exact { Gives (λ x. (x.0, drop x.1 bytes.now)) result
             (list_at at count (drop at bytes.now)) }

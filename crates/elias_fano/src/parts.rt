@@ -18,7 +18,14 @@ pub fn width_of(count: u64, last: u64) -> u32
 }
 
 /// What stands above the low bits of a value, and its low bits.
-pub fn part_at(low: &BitVec, high: &Selector, width: u32, count: u64, last: u64, i: u64) -> (u64, u64)
+pub fn part_at(
+    low: &BitVec,
+    high: &Selector,
+    width: u32,
+    count: u64,
+    last: u64,
+    i: u64,
+) -> (u64, u64)
     requires parts { AreParts count last width low.now high.now }
     requires within { i < count }
     ensures value { result.0 * 2 ^ width + result.1

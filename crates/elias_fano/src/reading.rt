@@ -5,12 +5,11 @@ ghost use Rattle.elias_fano.specs.Spelling.{low_width, high_len};
 ghost use Rattle.elias_fano.specs.declared.fault.ReadErr.TheVariants.{Form};
 ghost use Rattle.elias_fano.specs.Reading.{Gives, fault, number_at, words_in, run_at, checked, parts_at, list_at};
 
-use std::alloc::Global;
-
 use crate::fault::{COUNT, FormFault, LAST, ORDER, PADDING, ReadErr, SHORT};
 use crate::list::EliasFano;
 use crate::parts::{do_end, do_rise, width_of};
 use bit_vector::{BitVec, NoMemory, Selector};
+use std::alloc::Global;
 
 fn form_fault(at: u64, kind: u8) -> ReadErr
     ensures { result ≡ Form (fault at kind) }
@@ -120,7 +119,12 @@ fn parts_of(
 }
 
 /// The list of a count that bytes begin with, where their place is known, and the bytes after it.
-pub fn list_of(alloc: Global, at: u64, count: u64, bytes: &[u8]) -> Result<(EliasFano, &[u8]), ReadErr>
+pub fn list_of(
+    alloc: Global,
+    at: u64,
+    count: u64,
+    bytes: &[u8],
+) -> Result<(EliasFano, &[u8]), ReadErr>
     requires few { count ≤ 2 ^ 36 }
     requires place { at ≤ 2 ^ 63 }
     ensures { Gives (λ x. (x.0, x.1.now)) result (list_at at count bytes.now) }

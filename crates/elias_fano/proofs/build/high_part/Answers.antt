@@ -1,10 +1,6 @@
-use Rattle.std.proofs.Common.{◌≡◌, ℕ, ◌+◌, ◌-◌, ◌*◌, ◌/◌, ◌%◌, ◌^◌, ◌<◌, ◌≤◌, ◌++◌, List, [], ◌∷◌, Bool, true, false, length, take, drop, get_or, Some, None, Ok, Err, refl, sym, ap, ◌∙◌, subst, append_assoc, inl, inr, arith}
-use Rattle.std.specs.List.{flat_map, slice_get}
-use Rattle.bit_vector.specs.Bits.{bits_of, places, ones, words_for, words_number, packed, IsPacked}
-use Rattle.elias_fano.specs.Spelling.{number, run, last_of, rises, low_bits, high_places, high_len, low_width, ef_text, IsRising}
-use Rattle.elias_fano.specs.Values.{values_of, AreParts, AreValues}
-use Rattle.elias_fano.specs.Reading.{Gives, Fails, fault, number_at, words_in, run_at, checked, parts_at, list_at, IsSpelled}
-use Rattle.elias_fano.proofs.WidthLemmas.{low_width-le}
+use Rattle.std.proofs.Common.{◌≡◌, ℕ, ◌+◌, ◌-◌, ◌/◌, ◌^◌, List, Bool, length, take, get_or, ap, ◌∙◌, arith}
+use Rattle.bit_vector.specs.Bits.{bits_of, places}
+use Rattle.elias_fano.specs.Spelling.{last_of, high_places}
 use Rattle.std.proofs.lemmas.List.{length-append, take_all}
 use Rattle.bit_vector.proofs.BitLemmas.{length-bits_of}
 use Rattle.elias_fano.proofs.ValueLemmas.{get_or-le-last}

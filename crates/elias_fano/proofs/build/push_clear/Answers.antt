@@ -1,10 +1,5 @@
-use Rattle.std.proofs.Common.{◌≡◌, ℕ, ◌+◌, ◌-◌, ◌*◌, ◌/◌, ◌%◌, ◌^◌, ◌<◌, ◌≤◌, ◌++◌, List, [], ◌∷◌, Bool, true, false, length, take, drop, get_or, Some, None, Ok, Err, refl, sym, ap, ◌∙◌, subst, append_assoc, inl, inr, arith}
-use Rattle.std.specs.List.{flat_map, slice_get}
-use Rattle.bit_vector.specs.Bits.{bits_of, places, ones, words_for, words_number, packed, IsPacked}
-use Rattle.elias_fano.specs.Spelling.{number, run, last_of, rises, low_bits, high_places, high_len, low_width, ef_text, IsRising}
-use Rattle.elias_fano.specs.Values.{values_of, AreParts, AreValues}
-use Rattle.elias_fano.specs.Reading.{Gives, Fails, fault, number_at, words_in, run_at, checked, parts_at, list_at, IsSpelled}
-use Rattle.elias_fano.proofs.WidthLemmas.{low_width-le}
+use Rattle.std.proofs.Common.{◌-◌, ◌++◌, List, Bool, length, ap, ◌∙◌, append_assoc, arith}
+use Rattle.bit_vector.specs.Bits.{bits_of}
 use Rattle.std.proofs.lemmas.List.{length-append}
 use Rattle.bit_vector.proofs.BitLemmas.{length-bits_of}
 use Rattle.elias_fano.proofs.BuildLemmas.{clear-append}
@@ -16,6 +11,6 @@ loop-left-preserved c =
     let left = c.loop-left.left in
     record {
       so_far = ap (λ (bs : List Bool). bs ++ bits_of (left - 64) 0) c.in_ok-push_bits.ensures.ok ∙ append_assoc bits (bits_of 64 0) (bits_of (left - 64) 0)
-        ∙ ap (λ (bs : List Bool). bits ++ bs) (clear-append 64 (left - 64) left (omega (arith, c.loop-left-test.true))) ∙ c.loop-left.invariant.so_far;
+          ∙ ap (λ (bs : List Bool). bits ++ bs) (clear-append 64 (left - 64) left (omega (arith, c.loop-left-test.true))) ∙ c.loop-left.invariant.so_far;
       room = omega (arith, ap length c.in_ok-push_bits.ensures.ok, length-append bits (bits_of 64 0), length-bits_of 64 0, c.loop-left.invariant.room, c.loop-left-test.true);
     }

@@ -1,4 +1,4 @@
-use Rattle.std.proofs.Common.{◌≡◌, ℕ, ◌+◌, ◌-◌, ◌*◌, ◌/◌, ◌%◌, ◌^◌, ◌<◌, List, [], length, get_or, refl, sym, ap, ◌∙◌, arith}
+use Rattle.std.proofs.Common.{◌≡◌, ℕ, ◌+◌, ◌-◌, ◌*◌, ◌^◌, ◌<◌, List, [], get_or, refl, sym, ap, ◌∙◌, arith}
 use Rattle.std.proofs.lemmas.Bool.{eqb-true, eq-eqb}
 use Rattle.std.proofs.lemmas.Nat.{one_shl, pow_pos}
 use Rattle.std.proofs.lemmas.List.{nil_from_length}
@@ -36,10 +36,9 @@ returns-then-here-last c =
     let narrow : w < 64 = omega (arith, c.requires.parts.wide, low_width-le c.args.count last) in
     let n = values-length c.args.count last w c.args.low.now c.args.high.now c.requires.parts in
     let end : last_of 0 vs ≡ c.part_at-here.result.0 * 2 ^ w + c.part_at-here.result.1 =
-      last_of-is 0 vs (omega (arith, n, c.if-count-eq0.false)) ∙ ap (λ (i : ℕ). get_or vs (i - 1) 0) n ∙ sym c.part_at-here.ensures.value in
-    (
+    last_of-is 0 vs (omega (arith, n, c.if-count-eq0.false)) ∙ ap (λ (i : ℕ). get_or vs (i - 1) 0) n ∙ sym c.part_at-here.ensures.value in (
       λ t. end ∙ parts-join c.part_at-here.result.0 c.part_at-here.result.1 w last c.if-here-last.true (eqb-true _ _ t ∙ low_mask last w narrow),
-      λ e. eq-eqb _ _ ((parts-of c.part_at-here.result.0 c.part_at-here.result.1 w last c.part_at-here.ensures.low (sym end ∙ e)).1 ∙ sym (low_mask last w narrow))
+      λ e. eq-eqb _ _ ((parts-of c.part_at-here.result.0 c.part_at-here.result.1 w last c.part_at-here.ensures.low (sym end ∙ e)).1 ∙ sym (low_mask last w narrow)),
     )
 
 pub returns-else-here-last : goal.returns-else-here-last
@@ -49,8 +48,7 @@ returns-else-here-last c =
     let vs = values_of w c.args.low.now c.args.high.now in
     let n = values-length c.args.count last w c.args.low.now c.args.high.now c.requires.parts in
     let end : last_of 0 vs ≡ c.part_at-here.result.0 * 2 ^ w + c.part_at-here.result.1 =
-      last_of-is 0 vs (omega (arith, n, c.if-count-eq0.false)) ∙ ap (λ (i : ℕ). get_or vs (i - 1) 0) n ∙ sym c.part_at-here.ensures.value in
-    (
+    last_of-is 0 vs (omega (arith, n, c.if-count-eq0.false)) ∙ ap (λ (i : ℕ). get_or vs (i - 1) 0) n ∙ sym c.part_at-here.ensures.value in (
       λ t. absurd (c.if-here-last.false (eqb-true _ _ t)),
-      λ e. eq-eqb _ _ (parts-of c.part_at-here.result.0 c.part_at-here.result.1 w last c.part_at-here.ensures.low (sym end ∙ e)).0
+      λ e. eq-eqb _ _ (parts-of c.part_at-here.result.0 c.part_at-here.result.1 w last c.part_at-here.ensures.low (sym end ∙ e)).0,
     )

@@ -1,5 +1,5 @@
-use Rattle.std.proofs.Common.{◌≡◌, ◌/◌, sym, arith}
-use Rattle.elias_fano.proofs.WidthLemmas.{low_width-none, low_width-small, low_width-is, few_high, few_high-small}
+use Rattle.std.proofs.Common.{sym, arith}
+use Rattle.elias_fano.proofs.WidthLemmas.{low_width-none, low_width-small, low_width-is, few_high}
 use Rattle.elias_fano.proofs.parts.width_of.Goals as goal
 use Rattle.elias_fano.proofs.parts.width_of.Goals.{then-count-eq0-via-then-count-eq0, then-count-eq0-via-else-count-eq0+then-last-count-eq0}
 

@@ -1,10 +1,6 @@
-use Rattle.std.proofs.Common.{◌≡◌, ℕ, ◌+◌, ◌-◌, ◌*◌, ◌/◌, ◌%◌, ◌^◌, ◌<◌, ◌≤◌, ◌++◌, List, [], ◌∷◌, Bool, true, false, length, take, drop, get_or, Some, None, Ok, Err, refl, sym, ap, ◌∙◌, subst, append_assoc, inl, inr, arith}
-use Rattle.std.specs.List.{flat_map, slice_get}
-use Rattle.bit_vector.specs.Bits.{bits_of, places, ones, words_for, words_number, packed, IsPacked}
-use Rattle.elias_fano.specs.Spelling.{number, run, last_of, rises, low_bits, high_places, high_len, low_width, ef_text, IsRising}
-use Rattle.elias_fano.specs.Values.{values_of, AreParts, AreValues}
-use Rattle.elias_fano.specs.Reading.{Gives, Fails, fault, number_at, words_in, run_at, checked, parts_at, list_at, IsSpelled}
-use Rattle.elias_fano.proofs.WidthLemmas.{low_width-le}
+use Rattle.std.proofs.Common.{◌≡◌, ℕ, ◌≤◌, List, Bool, length, take, Ok, sym, ap, ◌∙◌, arith}
+use Rattle.bit_vector.specs.Bits.{ones}
+use Rattle.elias_fano.specs.Values.{values_of}
 use Rattle.std.proofs.lemmas.Bool.{both_ways}
 use Rattle.std.proofs.lemmas.List.{take_all}
 use Rattle.elias_fano.proofs.FormLemmas.{checked-count, checked-order, checked-last, checked-ok}
@@ -27,7 +23,7 @@ pub returns-then-not-do_end : goal.returns-then-not-do_end
 returns-then-not-do_end c =
     let n = all_ones c.args.high c.len-all.result c.rank1.result (omega (arith, c.len-all.ensures.value, ap length c.bits.ensures)) c.rank1.ensures in
     rw c.form_fault-then-not-do_end.ensures (checked-last c.args.at c.args.high_at c.args.count c.args.last c.args.width c.args.low c.args.high (sym n ∙ c.if-rank1-count.false) (sym c.do_rise.ensures ∙ c.if-not-do_rise.false)
-      (λ e. both_ways c.do_end.result c.if-not-do_end.true (c.do_end.ensures.1 e)))
+    (λ e. both_ways c.do_end.result c.if-not-do_end.true (c.do_end.ensures.1 e)))
 
 pub returns : goal.returns
 returns c =

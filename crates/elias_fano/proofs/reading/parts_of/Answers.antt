@@ -1,13 +1,10 @@
-use Rattle.std.proofs.Common.{◌≡◌, ℕ, ◌+◌, ◌-◌, ◌*◌, ◌/◌, ◌%◌, ◌^◌, ◌<◌, ◌≤◌, ◌++◌, List, [], ◌∷◌, Bool, true, false, length, take, drop, get_or, Some, None, Ok, Err, refl, sym, ap, ◌∙◌, subst, append_assoc, inl, inr, arith}
-use Rattle.std.specs.List.{flat_map, slice_get}
-use Rattle.bit_vector.specs.Bits.{bits_of, places, ones, words_for, words_number, packed, IsPacked}
-use Rattle.elias_fano.specs.Spelling.{number, run, last_of, rises, low_bits, high_places, high_len, low_width, ef_text, IsRising}
-use Rattle.elias_fano.specs.Values.{values_of, AreParts, AreValues}
-use Rattle.elias_fano.specs.Reading.{Gives, Fails, fault, number_at, words_in, run_at, checked, parts_at, list_at, IsSpelled}
-use Rattle.elias_fano.proofs.WidthLemmas.{low_width-le}
+use Rattle.std.proofs.Common.{◌≡◌, ℕ, ◌+◌, ◌*◌, ◌/◌, ◌^◌, List, Bool, length, Ok, sym, ap, ◌∙◌, subst, arith}
+use Rattle.bit_vector.specs.Bits.{words_for}
+use Rattle.elias_fano.specs.Spelling.{high_len, low_width}
+use Rattle.elias_fano.specs.Reading.{Fails, run_at, checked}
 use Rattle.std.proofs.lemmas.Result.{err_from_is_err_and}
 use Rattle.elias_fano.proofs.FormLemmas.{parts_at-low, parts_at-high, parts_at-check, parts_at-ok}
-use Rattle.elias_fano.proofs.LawLemmas.{run_takes, run_len}
+use Rattle.elias_fano.proofs.LawLemmas.{run_len}
 use Rattle.elias_fano.proofs.reading.parts_of.Goals as goal
 
 pub returns-in_err-low : goal.returns-in_err-low
@@ -58,9 +55,9 @@ returns-in_err-list c =
     let moved = ap (λ (p : ℕ). run_at p (high_len count last w) c.in_ok-low.rest.now) place ∙ ap (λ (n : ℕ). run_at (at + 8 + 8 * c.div_ceil.result) n c.in_ok-low.rest.now) size in
     let highs : run_at (at + 8 + 8 * words_for (count * w)) (high_len count last w) c.in_ok-low.rest.now ≡ Ok (c.in_ok-high.high, c.in_ok-high.rest.now) = moved ∙ c.in_ok-high.ensures in
     let same : checked at (at + 8 + 8 * words_for (count * w)) count last w c.in_ok-low.low c.in_ok-high.high ≡ checked at (at + 8 + 8 * c.div_ceil.result) count last c.width_of-width.result c.in_ok-low.low c.in_ok-high-2.high =
-      ap (λ (p : ℕ). checked at p count last w c.in_ok-low.low c.in_ok-high.high) place
-      ∙ ap (λ (x : ℕ). checked at (at + 8 + 8 * c.div_ceil.result) count last x c.in_ok-low.low c.in_ok-high.high) (sym c.width_of-width.ensures.width)
-      ∙ ap (λ (bs : List Bool). checked at (at + 8 + 8 * c.div_ceil.result) count last c.width_of-width.result c.in_ok-low.low bs) (sym c.in_ok-high-2.ensures) in
+    ap (λ (p : ℕ). checked at p count last w c.in_ok-low.low c.in_ok-high.high) place
+    ∙ ap (λ (x : ℕ). checked at (at + 8 + 8 * c.div_ceil.result) count last x c.in_ok-low.low c.in_ok-high.high) (sym c.width_of-width.ensures.width)
+    ∙ ap (λ (bs : List Bool). checked at (at + 8 + 8 * c.div_ceil.result) count last c.width_of-width.result c.in_ok-low.low bs) (sym c.in_ok-high-2.ensures) in
     let p = err_from_is_err_and c.from_residual-in_err-list.result c.from_residual-in_err-list.ensures.1 in
     rw (p.1, p.2) (parts_at-check c.in_err-list.field-0.0 at count last w bytes c.in_ok-low.low c.in_ok-high.high c.in_ok-low.rest.now c.in_ok-high.rest.now lows highs (rw same c.in_err-list.ensures))
 
@@ -78,7 +75,7 @@ returns c =
     let moved = ap (λ (p : ℕ). run_at p (high_len count last w) c.in_ok-low.rest.now) place ∙ ap (λ (n : ℕ). run_at (at + 8 + 8 * c.div_ceil.result) n c.in_ok-low.rest.now) size in
     let highs : run_at (at + 8 + 8 * words_for (count * w)) (high_len count last w) c.in_ok-low.rest.now ≡ Ok (c.in_ok-high.high, c.in_ok-high.rest.now) = moved ∙ c.in_ok-high.ensures in
     let same : checked at (at + 8 + 8 * words_for (count * w)) count last w c.in_ok-low.low c.in_ok-high.high ≡ checked at (at + 8 + 8 * c.div_ceil.result) count last c.width_of-width.result c.in_ok-low.low c.in_ok-high-2.high =
-      ap (λ (p : ℕ). checked at p count last w c.in_ok-low.low c.in_ok-high.high) place
-      ∙ ap (λ (x : ℕ). checked at (at + 8 + 8 * c.div_ceil.result) count last x c.in_ok-low.low c.in_ok-high.high) (sym c.width_of-width.ensures.width)
-      ∙ ap (λ (bs : List Bool). checked at (at + 8 + 8 * c.div_ceil.result) count last c.width_of-width.result c.in_ok-low.low bs) (sym c.in_ok-high-2.ensures) in
+    ap (λ (p : ℕ). checked at p count last w c.in_ok-low.low c.in_ok-high.high) place
+    ∙ ap (λ (x : ℕ). checked at (at + 8 + 8 * c.div_ceil.result) count last x c.in_ok-low.low c.in_ok-high.high) (sym c.width_of-width.ensures.width)
+    ∙ ap (λ (bs : List Bool). checked at (at + 8 + 8 * c.div_ceil.result) count last c.width_of-width.result c.in_ok-low.low bs) (sym c.in_ok-high-2.ensures) in
     parts_at-ok at count last w bytes c.in_ok-low.low c.in_ok-high.high c.in_ok-low.rest.now c.in_ok-high.rest.now c.in_ok-list.list lows highs (same ∙ c.in_ok-list.ensures)

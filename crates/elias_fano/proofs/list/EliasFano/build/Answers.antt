@@ -1,10 +1,6 @@
-use Rattle.std.proofs.Common.{◌≡◌, ℕ, ◌+◌, ◌-◌, ◌*◌, ◌/◌, ◌%◌, ◌^◌, ◌<◌, ◌≤◌, ◌++◌, List, [], ◌∷◌, Bool, true, false, length, take, drop, get_or, Some, None, Ok, Err, refl, sym, ap, ◌∙◌, subst, append_assoc, inl, inr, arith}
-use Rattle.std.specs.List.{flat_map, slice_get}
-use Rattle.bit_vector.specs.Bits.{bits_of, places, ones, words_for, words_number, packed, IsPacked}
-use Rattle.elias_fano.specs.Spelling.{number, run, last_of, rises, low_bits, high_places, high_len, low_width, ef_text, IsRising}
-use Rattle.elias_fano.specs.Values.{values_of, AreParts, AreValues}
-use Rattle.elias_fano.specs.Reading.{Gives, Fails, fault, number_at, words_in, run_at, checked, parts_at, list_at, IsSpelled}
-use Rattle.elias_fano.proofs.WidthLemmas.{low_width-le}
+use Rattle.std.proofs.Common.{◌≡◌, ℕ, ◌/◌, ◌^◌, ◌≤◌, List, Bool, length, ap, ◌∙◌, subst, arith}
+use Rattle.bit_vector.specs.Bits.{places}
+use Rattle.elias_fano.specs.Values.{values_of}
 use Rattle.elias_fano.proofs.BuildLemmas.{built, last_high, last_of-none}
 use Rattle.elias_fano.proofs.list.EliasFano.build.Goals as goal
 
@@ -19,7 +15,7 @@ from_parts-requires c =
     let vs = c.args.values.now in
     let e : c.in_ok-high.high ≡ c.in_ok-high_part.field-0 = c.in_ok-high.ensures in
     (built vs c.last_value-last.result c.width_of-width.result c.in_ok-low.low c.in_ok-high.high c.requires.rising c.requires.few c.last_value-last.ensures (omega arith) c.width_of-width.ensures.width c.in_ok-low.ensures
-      (ap length e ∙ c.in_ok-high_part.ensures.len) (ap (λ (bs : List Bool). places bs) e ∙ c.in_ok-high_part.ensures.ones_at)).0
+    (ap length e ∙ c.in_ok-high_part.ensures.len) (ap (λ (bs : List Bool). places bs) e ∙ c.in_ok-high_part.ensures.ones_at)).0
 
 pub returns : goal.returns
 returns c =
@@ -27,4 +23,4 @@ returns c =
     let e : c.in_ok-high.high ≡ c.in_ok-high_part.field-0 = c.in_ok-high.ensures in
     let r : c.from_parts.result ≡ values_of c.width_of-width.result c.in_ok-low.low c.in_ok-high.high = c.from_parts.ensures in
     r ∙ (built vs c.last_value-last.result c.width_of-width.result c.in_ok-low.low c.in_ok-high.high c.requires.rising c.requires.few c.last_value-last.ensures (omega arith) c.width_of-width.ensures.width c.in_ok-low.ensures
-      (ap length e ∙ c.in_ok-high_part.ensures.len) (ap (λ (bs : List Bool). places bs) e ∙ c.in_ok-high_part.ensures.ones_at)).1
+    (ap length e ∙ c.in_ok-high_part.ensures.len) (ap (λ (bs : List Bool). places bs) e ∙ c.in_ok-high_part.ensures.ones_at)).1

@@ -1,14 +1,9 @@
-use Rattle.std.proofs.Common.{◌≡◌, ℕ, ◌+◌, ◌-◌, ◌*◌, ◌/◌, ◌%◌, ◌^◌, ◌<◌, ◌≤◌, ◌++◌, List, [], ◌∷◌, Bool, true, false, length, take, drop, get_or, Some, None, Ok, Err, refl, sym, ap, ◌∙◌, subst, append_assoc, inl, inr, arith}
-use Rattle.std.specs.List.{flat_map, slice_get}
-use Rattle.bit_vector.specs.Bits.{bits_of, places, ones, words_for, words_number, packed, IsPacked}
-use Rattle.elias_fano.specs.Spelling.{number, run, last_of, rises, low_bits, high_places, high_len, low_width, ef_text, IsRising}
-use Rattle.elias_fano.specs.Values.{values_of, AreParts, AreValues}
-use Rattle.elias_fano.specs.Reading.{Gives, Fails, fault, number_at, words_in, run_at, checked, parts_at, list_at, IsSpelled}
-use Rattle.elias_fano.proofs.WidthLemmas.{low_width-le}
+use Rattle.std.proofs.Common.{◌≡◌, ℕ, List, drop, Ok, sym, ap, ◌∙◌, arith}
+use Rattle.elias_fano.specs.Reading.{list_at}
 use Rattle.std.proofs.lemmas.Result.{err_from_is_err_and}
 use Rattle.std.proofs.lemmas.List.{take_rest}
 use Rattle.elias_fano.proofs.FormLemmas.{IsBytes-drop}
-use Rattle.elias_fano.proofs.LawLemmas.{list_takes, spelled_at, spelled_again, spelled_same, fails_not}
+use Rattle.elias_fano.proofs.LawLemmas.{list_takes, spelled_at, spelled_again, spelled_same, spelled_once, fails_not}
 use Rattle.elias_fano.proofs.list.EliasFano.read.Goals as goal
 
 pub returns-in_err-list-clause-only : goal.returns-in_err-list-clause-only
@@ -61,3 +56,9 @@ returns-clause-exact c =
     let t = list_takes at c.args.count (drop at bytes) vs rest (IsBytes-drop at bytes (λ i. omega (arith, c.type_inv.bytes i))) c.requires.few read in
     let s = spelled_at bytes at c.args.count vs rest c.requires.within t in
     read ∙ ap (λ (u : List ℕ). Ok (vs, u)) s.2
+
+pub returns-in_err-list-clause-one : goal.returns-in_err-list-clause-one
+returns-in_err-list-clause-one c = λ vs us m n s t. spelled_once c.args.bytes.now c.args.at c.args.count vs us m n s t
+
+pub returns-clause-one : goal.returns-clause-one
+returns-clause-one c = λ vs us m n s t. spelled_once c.args.bytes.now c.args.at c.args.count vs us m n s t
