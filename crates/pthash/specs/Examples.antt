@@ -1,0 +1,114 @@
+-- Worked examples of the definitions: each is computed.
+use Rattle.std.specs.Prelude.{◌≡◌, ℕ, List, [], ◌∷◌, replicate, refl}
+use lib.Count.{ones}
+use Rattle.pthash.specs.declared.Record.{Record}
+use Rattle.pthash.specs.declared.TheConstants.{MULTIPLIER}
+use Rattle.pthash.specs.Hash.{hash_of, blocks_of, pilot_hash, product}
+use Rattle.pthash.specs.Sizes.{table_size_of, bucket_count_of, front_count_of, bucket_of, partition_of, halvings}
+use Rattle.pthash.specs.Order.{order_of, ranked, numbers_below}
+
+pub hash_of_no_bytes_at_0 : hash_of [] 0 ≡ 0
+unfolding hash_of blocks_of
+hash_of_no_bytes_at_0 = refl
+
+pub hash_of_no_bytes_at_1 : hash_of [] 1 ≡ 0xc6a4a7935bd064dc
+unfolding hash_of blocks_of
+hash_of_no_bytes_at_1 = refl
+
+pub hash_of_no_bytes_at_the_last_seed_but_one : hash_of [] 0xfffffffffffffffe ≡ 0x777defef88a7076e
+unfolding hash_of blocks_of
+hash_of_no_bytes_at_the_last_seed_but_one = refl
+
+pub hash_of_a : hash_of (0x61 ∷ []) 0xc6a4a7935bd1e9f4 ≡ 0
+unfolding hash_of blocks_of
+hash_of_a = refl
+
+pub hash_of_seven_zeros : hash_of (replicate 7 0) 0x6e80950782bd6313 ≡ 0
+unfolding hash_of blocks_of
+hash_of_seven_zeros = refl
+
+pub hash_of_eight_zeros : hash_of (replicate 8 0) 0x35253c9ade8f4ca8 ≡ 0
+unfolding hash_of blocks_of
+hash_of_eight_zeros = refl
+
+pub hash_of_nine_zeros : hash_of (replicate 9 0) 0xfbc9e42e3a61363d ≡ 0
+unfolding hash_of blocks_of
+hash_of_nine_zeros = refl
+
+-- the seed 8 * MULTIPLIER modulo 2 ^ 64, at which pilot 0 has the hash 0
+abbrev pub SEED_OF_ZERO : ℕ
+SEED_OF_ZERO = product 8 MULTIPLIER
+
+pub pilot_hash_of_0 : pilot_hash 0 SEED_OF_ZERO ≡ 0
+unfolding pilot_hash hash_of blocks_of
+pilot_hash_of_0 = refl
+
+pub table_size_of_none : table_size_of 0 98 ≡ 0
+unfolding table_size_of ones
+table_size_of_none = refl
+
+pub table_size_of_one : table_size_of 1 98 ≡ 3
+unfolding table_size_of ones
+table_size_of_one = refl
+
+pub table_size_of_a_thousand : table_size_of 1000 98 ≡ 1021
+unfolding table_size_of ones
+table_size_of_a_thousand = refl
+
+pub table_size_above_a_power_of_two : table_size_of 1003 98 ≡ 1025
+unfolding table_size_of ones
+table_size_above_a_power_of_two = refl
+
+pub table_size_of_one_at_100 : table_size_of 1 100 ≡ 2
+unfolding table_size_of ones
+table_size_of_one_at_100 = refl
+
+pub bucket_count_of_none : bucket_count_of 0 700 ≡ 0
+unfolding bucket_count_of halvings
+bucket_count_of_none = refl
+
+pub bucket_count_of_one : bucket_count_of 1 700 ≡ 7
+unfolding bucket_count_of halvings
+bucket_count_of_one = refl
+
+pub bucket_count_of_a_thousand : bucket_count_of 1000 700 ≡ 778
+unfolding bucket_count_of halvings
+bucket_count_of_a_thousand = refl
+
+pub front_count_of_778 : front_count_of 778 ≡ 233
+front_count_of_778 = refl
+
+pub bucket_of_the_last_front_hash : bucket_of 11068046444225730968 7 ≡ 0
+unfolding bucket_of
+bucket_of_the_last_front_hash = refl
+
+pub bucket_of_the_first_back_hash : bucket_of 11068046444225730969 7 ≡ 6
+unfolding bucket_of
+bucket_of_the_first_back_hash = refl
+
+pub bucket_of_without_front_buckets : bucket_of 5 3 ≡ 2
+unfolding bucket_of
+bucket_of_without_front_buckets = refl
+
+pub partition_of_the_greatest_xor : partition_of 0xffffffffffffffff 0 8 ≡ 7
+unfolding partition_of
+partition_of_the_greatest_xor = refl
+
+pub partition_of_equal_hashes : partition_of 12345 12345 8 ≡ 0
+unfolding partition_of
+partition_of_equal_hashes = refl
+
+-- records with these first hashes and the second hashes 10, 11 and so on
+abbrev seven_records : List Record
+seven_records =
+    record { a = 0; b = 10; ordinal = 0 } ∷ record { a = 1; b = 11; ordinal = 1 }
+    ∷ record { a = 11068046444225730970; b = 12; ordinal = 2 } ∷ record { a = 11068046444225730973; b = 13; ordinal = 3 }
+    ∷ record { a = 11068046444225730976; b = 14; ordinal = 4 } ∷ record { a = 11068046444225730971; b = 15; ordinal = 5 }
+    ∷ record { a = 11068046444225730974; b = 16; ordinal = 6 } ∷ []
+
+pub order_of_seven_records :
+    order_of seven_records 4
+    ≡ record { number = 2; members = 12 ∷ 13 ∷ 14 ∷ [] } ∷ record { number = 0; members = 10 ∷ 11 ∷ [] }
+    ∷ record { number = 3; members = 15 ∷ 16 ∷ [] } ∷ []
+unfolding order_of ranked numbers_below bucket_of
+order_of_seven_records = refl

@@ -1,0 +1,11 @@
+pub mod Hash
+pub mod Sizes
+pub mod Records
+pub mod Order
+pub mod OrderLaws
+pub mod Search
+pub mod Least
+pub mod SearchLaws
+pub mod ByBucket
+pub mod Examples
+pub mod SearchExamples
