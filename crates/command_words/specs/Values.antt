@@ -1,5 +1,5 @@
 -- What the values of settings stand for.
-use Rattle.std.specs.Prelude.{◌==◌, ℕ, ◌+◌, ◌^◌, ◌&&◌, List, [], ◌∷◌, length, codes, bytes_eq, decimal, nat_le, nat_lt, if◌then◌else◌, Option, Some, None, Result, Ok, Err, ok_or, option_map, option_and_then}
+use Rattle.std.specs.Prelude.{◌≡◌, ◌<◌, ◌≤◌, slice_index, ◌==◌, ℕ, ◌+◌, ◌^◌, ◌&&◌, List, [], ◌∷◌, length, codes, bytes_eq, decimal, nat_le, nat_lt, if◌then◌else◌, Option, Some, None, Result, Ok, Err, ok_or, option_map, option_and_then}
 use Rattle.std.specs.List.{slice_split, before_first, after_first, position_or_len}
 use Rattle.std.specs.Str.Parse.{digits_value}
 use Rattle.command_words.specs.declared.kinds.TheConstants.{NUMBER, RANGE}
@@ -15,6 +15,13 @@ use Rattle.command_words.specs.declared.options.Encoding.{Encoding}
 unfoldable pub number_of : List ℕ → Option ℕ
 number_of text = let n = digits_value 10 text in
     if nat_lt n (2 ^ 64) && bytes_eq text (decimal n) then Some n else None
+
+-- a text begins with a digit, and with 0 only where nothing follows
+pub record IsPlain (text : List ℕ) : Type 0 where
+  pub some_byte : 0 < length text
+  pub digit_low : 48 ≤ slice_index text 0
+  pub digit_high : slice_index text 0 ≤ 57
+  pub no_leading_zero : slice_index text 0 ≡ 48 → length text ≡ 1
 
 -- the number, if it is one from low to high
 abbrev pub between : ℕ → ℕ → Option ℕ → Result ℕ ℕ

@@ -61,7 +61,7 @@ fn seeds_or_first(alloc: Global, seeds: Option<Vec<u64>>) -> Result<Vec<u64>, Al
 }
 
 // This many workers search in this way.
-fn how(search: Search, workers: u32) -> How
+fn how_to_search(search: Search, workers: u32) -> How
     ensures { result ≡ how_of search workers }
 {
     match search {
@@ -149,7 +149,7 @@ impl Chosen {
                 },
                 parts: parts.unwrap_or(1) as u32,
                 limit: pilots.unwrap_or(16_777_216),
-                how: how(search.unwrap_or(Search::Turns), workers.unwrap_or(4) as u32),
+                how: how_to_search(search.unwrap_or(Search::Turns), workers.unwrap_or(4) as u32),
             },
             enc: enc.unwrap_or(DEFAULT_ENCODING),
             blocks: blocks.unwrap_or(0) as u32,

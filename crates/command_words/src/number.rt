@@ -1,7 +1,7 @@
 // Numbers in words.
-ghost use Rattle.std.specs.Prelude.{◌≡◌, ◌^◌, ◌<◌, ℕ, Some, None, IfSome, decimal, vec_items};
+ghost use Rattle.std.specs.Prelude.{◌≡◌, ◌^◌, ◌<◌, ◌↔◌, ℕ, IsTrue, Some, None, IfSome, decimal, vec_items};
 ghost use Rattle.command_words.specs.Refusals.{Answers};
-ghost use Rattle.command_words.specs.Values.{number_of, number_in, seeds_in};
+ghost use Rattle.command_words.specs.Values.{IsPlain, number_of, number_in, seeds_in};
 
 use crate::faults::Refusal;
 use crate::kinds::{NUMBER, RANGE};
@@ -13,16 +13,27 @@ pub const MOST_SEEDS: usize = 16;
 // The byte between two seeds.
 pub const COMMA: char = ',';
 
+// Whether a text begins with a digit, and with 0 only where nothing follows.
+fn is_plain(bytes: &[u8]) -> bool
+    ensures { IsTrue result ↔ IsPlain bytes.now }
+{
+    match bytes.first() {
+        Some(b'0') => bytes.len() == 1,
+        Some(first) => first.is_ascii_digit(),
+        None => false,
+    }
+}
+
 // The number that a text spells in decimal digits, with no sign and no leading zero.
 fn number(text: &str) -> Option<u64>
     ensures value { result ≡ number_of text.now }
     ensures spelled { IfSome result (λ n. text.now ≡ decimal n) }
     ensures all { (n : ℕ) → n < 2 ^ 64 → text.now ≡ decimal n → result ≡ Some n }
 {
-    match text.as_bytes() {
-        [b'0'] => Some(0),
-        [b'1'..=b'9', ..] => text.parse().ok(),
-        _ => None,
+    if is_plain(text.as_bytes()) {
+        text.parse().ok()
+    } else {
+        None
     }
 }
 
@@ -30,11 +41,13 @@ fn number(text: &str) -> Option<u64>
 pub fn read_number(text: &str, low: u64, high: u64) -> Result<u64, Refusal>
     ensures { Answers (λ x. x) result (number_in low high text.now) }
 {
-    match number(text) {
-        Some(n) if low <= n && n <= high => Ok(n),
-        Some(_) => Err(Refusal::Kind(RANGE)),
-        None => Err(Refusal::Kind(NUMBER)),
+    let Some(n) = number(text) else {
+        return Err(Refusal::Kind(NUMBER));
+    };
+    if n < low || high < n {
+        return Err(Refusal::Kind(RANGE));
     }
+    Ok(n)
 }
 
 // The seeds that a text lists between commas.
@@ -43,7 +56,9 @@ pub fn read_seeds(alloc: Global, text: &str) -> Result<Vec<u64>, Refusal>
 {
     let mut seeds = Vec::new(alloc);
     for piece in text.split(COMMA) {
-        let seed = number(piece).ok_or(Refusal::Kind(NUMBER))?;
+        let Some(seed) = number(piece) else {
+            return Err(Refusal::Kind(NUMBER));
+        };
         seeds.push(seed)?;
     }
     if seeds.len() > MOST_SEEDS {

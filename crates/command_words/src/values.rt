@@ -1,7 +1,7 @@
 // Values that are one of a few words.
 ghost use Rattle.std.specs.Prelude.{◌≡◌};
 ghost use Rattle.command_words.specs.Refusals.{Answers};
-ghost use Rattle.command_words.specs.Values.{code_of, encoding_in, search_in};
+ghost use Rattle.command_words.specs.Values.{code_of, cut_at, encoding_of, encoding_in, search_in};
 
 use crate::faults::Refusal;
 use crate::kinds::RANGE;
@@ -42,21 +42,28 @@ fn code_named(text: &str) -> Option<Code>
 }
 
 // The one code or the two codes, joined by a dash, that a text names.
-pub fn read_encoding(text: &str) -> Result<Encoding, Refusal>
-    ensures { Answers (λ x. x) result (encoding_in text.now) }
+fn encoding_named(text: &str) -> Option<Encoding>
+    ensures { result ≡ encoding_of text.now (cut_at DASH text.now) }
 {
     match text.split_once(DASH) {
         None => {
-            let front = code_named(text).ok_or(Refusal::Kind(RANGE))?;
-            Ok(Encoding { front, back: None })
+            let front = code_named(text)?;
+            Some(Encoding { front, back: None })
         }
         Some((front, back)) => {
-            let front = code_named(front).ok_or(Refusal::Kind(RANGE))?;
-            let back = code_named(back).ok_or(Refusal::Kind(RANGE))?;
-            Ok(Encoding {
-                front,
-                back: Some(back),
-            })
+            let front = code_named(front)?;
+            let back = Some(code_named(back)?);
+            Some(Encoding { front, back })
         }
+    }
+}
+
+// The encoding that a text names.
+pub fn read_encoding(text: &str) -> Result<Encoding, Refusal>
+    ensures { Answers (λ x. x) result (encoding_in text.now) }
+{
+    match encoding_named(text) {
+        Some(encoding) => Ok(encoding),
+        None => Err(Refusal::Kind(RANGE)),
     }
 }
