@@ -9,7 +9,7 @@ use Rattle.command_words.proofs.number.read_seeds.Goals as goal
 pub returns-in_default : goal.returns-in_default
 returns-in_default c =
     let at = YieldsList-turn (YieldsList-from_str_split 44 c.args.text.now (lit< tt) (cc) (cc) (cc)) c.loop-piece.yielded _ c.loop-piece.yielded_by _ _ c.in-Some.piece c.in-Some.is c.next.ensures.steps in
-    no_seed c.args.text.now (length c.loop-piece.yielded) c.in-Some.piece.now c.loop-piece.seeds.items at ? c.loop-piece.invariant
+    no_seed c.args.text.now (length c.loop-piece.yielded) c.in-Some.piece.now c.loop-piece.seeds.items at c.in_default.ensures.value c.loop-piece.invariant
 
 pub loop-piece-preserved : goal.loop-piece-preserved
 loop-piece-preserved c =
