@@ -1,0 +1,6 @@
+pub mod Refusals
+pub mod Values
+pub mod Options
+pub mod Settings
+pub mod Chosen
+pub mod Words

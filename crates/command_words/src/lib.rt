@@ -1,0 +1,17 @@
+//! Reads the words after the program's name: the command, its names and its settings.
+#![tactic(auto)]
+
+mod chosen;
+mod faults;
+pub mod kinds;
+mod number;
+mod options;
+mod setting;
+#[cfg(test)]
+mod tests;
+mod values;
+mod words;
+
+pub use faults::{WordFault, WordsErr};
+pub use options::{Code, Encoding, How, Options, Settings};
+pub use words::{Command, read_words};

@@ -1,0 +1,113 @@
+use crate::kinds::{COMMAND, MISSING, NAME, NUMBER, RANGE, REPEATED};
+use crate::{Code, Command, How, WordFault, WordsErr, read_words};
+use std::alloc::{AllocError, Global};
+use std::test::Fail;
+
+// The words of a line, each a text of its own.
+fn read_line(alloc: Global, line: &str) -> Result<Result<Command, WordsErr>, AllocError> {
+    let mut words = Vec::new(alloc);
+    for word in line.split_whitespace() {
+        words.push(String::from_str(alloc, word)?)?;
+    }
+    Ok(read_words(alloc, &words))
+}
+
+// Each faulty line, with the number of its first faulty word and the kind of the fault.
+const FAULTY: [(&str, u64, u8); 47] = [
+    ("", 0, MISSING),
+    ("pilots", 1, MISSING),
+    ("pilots K x", 2, NAME),
+    ("pilots K x=1", 2, NAME),
+    ("pilots K =", 2, NAME),
+    ("pilots K alpha", 2, NAME),
+    ("pilots K alpha=", 2, NUMBER),
+    ("pilots K alpha=49", 2, RANGE),
+    ("pilots K alpha=101", 2, RANGE),
+    ("pilots K alpha=098", 2, NUMBER),
+    ("pilots K alpha=+98", 2, NUMBER),
+    ("pilots K alpha=98 alpha=98", 3, REPEATED),
+    ("pilots K alpha=98 alpha=x", 3, REPEATED),
+    ("pilots K alpha=x alpha=98", 2, NUMBER),
+    ("pilots K Alpha=98", 2, NAME),
+    ("pilots K alpha=98=1", 2, NUMBER),
+    ("pilots K c=99", 2, RANGE),
+    ("pilots K c=1501", 2, RANGE),
+    ("pilots K parts=0", 2, RANGE),
+    ("pilots K parts=4097", 2, RANGE),
+    ("pilots K workers=0", 2, RANGE),
+    ("pilots K workers=65", 2, RANGE),
+    ("pilots K search=alone", 2, RANGE),
+    ("pilots K search=", 2, RANGE),
+    ("pilots K enc=d-", 2, RANGE),
+    ("pilots K enc=-d", 2, RANGE),
+    ("pilots K enc=d-d-d", 2, RANGE),
+    ("pilots K enc=D", 2, RANGE),
+    ("pilots K pilots=0", 2, RANGE),
+    ("pilots K pilots=4294967296", 2, RANGE),
+    ("pilots K pilots=18446744073709551616", 2, NUMBER),
+    ("pilots K blocks=65537", 2, RANGE),
+    ("pilots K limit=0", 2, RANGE),
+    ("pilots K limit=67108865", 2, RANGE),
+    ("pilots K seeds=", 2, NUMBER),
+    ("pilots K seeds=1,", 2, NUMBER),
+    ("pilots K seeds=,1", 2, NUMBER),
+    ("pilots K seeds=1,,2", 2, NUMBER),
+    ("pilots K seeds=01", 2, NUMBER),
+    ("pilots K seeds=18446744073709551616", 2, NUMBER),
+    (
+        "pilots K seeds=1,2,3,4,5,6,7,8,9,10,11,12,13,14,15,16,17",
+        2,
+        RANGE,
+    ),
+    (
+        "pilots K seeds=1,2,3,4,5,6,7,8,9,10,11,12,13,14,15,16,x",
+        2,
+        NUMBER,
+    ),
+    ("pilots K seeds=1 beta=1 alpha=1", 3, NAME),
+    ("pilots K alpha=1 beta=1", 2, RANGE),
+    ("Pilots K", 0, COMMAND),
+    ("sort", 0, COMMAND),
+    ("--help", 0, COMMAND),
+];
+
+#[test]
+fn the_first_faulty_word_is_named(rt: HostRuntime) -> Result<(), Fail> {
+    for (line, word, kind) in FAULTY {
+        match read_line(rt.alloc(), line)? {
+            Err(WordsErr::Bad(fault)) => {
+                assert_eq!(&rt; fault, WordFault { word, kind }, "{line}");
+            }
+            Err(WordsErr::NoMemory) => return Err(Fail::from("no memory")),
+            Ok(_) => return Err(Fail::from("a faulty line is accepted")),
+        }
+    }
+    Ok(())
+}
+
+#[test]
+fn settings_that_no_word_gives_are_as_by_default(rt: HostRuntime) -> Result<(), Fail> {
+    let Ok(Command::Pilots { keys, options }) = read_line(rt.alloc(), "pilots K")? else {
+        return Err(Fail::from("a good line is refused"));
+    };
+    assert_eq!(&rt; keys.as_str(), "K");
+    assert_eq!(&rt;
+        options.settings.seeds.as_slice(),
+        [1, 2, 3, 4, 5, 6, 7, 8].as_slice()
+    );
+    assert_eq!(&rt;
+        (options.settings.shape.alpha, options.settings.shape.c),
+        (98, 700)
+    );
+    assert_eq!(&rt;
+        (options.settings.parts, options.settings.limit),
+        (1, 16_777_216)
+    );
+    assert_eq!(&rt; options.settings.how, How::Turns(4));
+    assert_eq!(&rt;
+        (options.enc.front, options.enc.back),
+        (Code::Dict, Some(Code::Dict))
+    );
+    assert_eq!(&rt; (options.blocks, options.most), (0, 67_108_864));
+    Ok(())
+}
