@@ -27,7 +27,8 @@ AreShort-push (k ∷ keys) key short fits = (short.0, AreShort-push keys key sho
 short_test : (key : List ℕ) → length key ≤ LONGEST_KEY → is_too_long key ≡ false
 short_test key fits = false_from_ne_true _ (λ is. let long : LONGEST_KEY < length key = (Decides-ltb LONGEST_KEY (length key)).0 is in omega arith)
 
-no_long : (i : ℕ) (keys : List (List ℕ)) → AreShort keys → position_from is_too_long i keys ≡ None
+-- among short keys there is none that is too long
+pub no_long : (i : ℕ) (keys : List (List ℕ)) → AreShort keys → position_from is_too_long i keys ≡ None
 unfolding AreShort
 no_long i [] short = refl
 no_long i (k ∷ keys) short = ap (λ (b : Bool). cond b (Some i) (position_from is_too_long (i + 1) keys)) (short_test k short.0) ∙ no_long (i + 1) keys short.1

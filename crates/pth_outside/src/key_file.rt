@@ -29,6 +29,7 @@ pub fn read_keys<F: Files>(
     ensures ok { IfOk result (λ keys.
         OfFile (F.told files.old) name.now (λ bytes. keys ≡ keys_of bytes)) }
     ensures bound { IfOk result (λ keys. length keys ≤ most) }
+    ensures short { IfOk result (λ keys. first_too_long keys ≡ None) }
     ensures too_long { (line : ℕ) → IsErrOf result (KeysErr.TooLong line) →
         OfFile (F.told files.old) name.now (λ bytes.
         first_too_long (take most (keys_of bytes)) ≡ Some line) }

@@ -1,13 +1,28 @@
 -- The texts that the program prints. Each line ends with a line feed.
-use Rattle.std.specs.Prelude.{ℕ, List, [], ◌∷◌, ◌++◌, length, codes, decimal, flat_map}
+use Rattle.std.specs.Prelude.{ℕ, ◌+◌, ◌==◌, List, [], ◌∷◌, ◌++◌, length, codes, decimal, flat_map, if◌then◌else◌}
+use Rattle.build_outcome.specs.declared.Cause.{Cause}
+use Rattle.build_outcome.specs.declared.Cause.TheVariants.{SameHash, Stuck}
+use Rattle.command_words.specs.declared.kinds.TheConstants.{COMMAND, MISSING, EXTRA, NAME, REPEATED, NUMBER, RANGE}
 
 -- a text with its line feed
 abbrev pub line : List ℕ → List ℕ
 line text = text ++ 10 ∷ []
 
--- the words are none that the program knows
-abbrev pub unknown_command : List ℕ
-unknown_command = codes "word 0: command\n"
+-- the name of a kind of fault in a word
+unfoldable pub kind_name : ℕ → List ℕ
+kind_name kind =
+    if kind == COMMAND then codes "command"
+    else if kind == MISSING then codes "missing"
+    else if kind == EXTRA then codes "extra"
+    else if kind == NAME then codes "name"
+    else if kind == REPEATED then codes "repeated"
+    else if kind == NUMBER then codes "number"
+    else if kind == RANGE then codes "range"
+    else codes "same name"
+
+-- the words are refused: the number of the faulty word, from 0, and the kind of its fault
+unfoldable pub refused_word : ℕ → ℕ → List ℕ
+refused_word word kind = line (codes "word " ++ decimal word ++ codes ": " ++ kind_name kind)
 
 -- a file is missing, or the outside failed
 abbrev pub file_fault : List ℕ
@@ -21,9 +36,17 @@ no_memory = codes "no memory\n"
 abbrev pub no_keys : List ℕ
 no_keys = codes "no keys\n"
 
--- the key file has more bytes than this
-unfoldable pub file_too_large : ℕ → List ℕ
-file_too_large limit = line (codes "file too large: limit " ++ decimal limit)
+-- a line, by its number from 1, has more bytes than a key may have
+unfoldable pub too_long : ℕ → List ℕ
+too_long number = line (codes "line " ++ decimal number ++ codes " is too long")
+
+-- the key file has more lines than this
+unfoldable pub too_many : ℕ → List ℕ
+too_many most = line (codes "too many keys: limit " ++ decimal most)
+
+-- two lines, by their numbers from 1, hold the same key
+unfoldable pub repeated_key : ℕ → ℕ → List ℕ
+repeated_key first second = line (codes "repeated key: lines " ++ decimal first ++ codes " and " ++ decimal second)
 
 -- each number after a space
 abbrev pub spaced : List ℕ → List ℕ
@@ -33,19 +56,36 @@ spaced numbers = flat_map (λ n. 32 ∷ decimal n) numbers
 unfoldable pub part_lines : ℕ → ℕ → ℕ → List ℕ → List ℕ
 part_lines part keys size pilots =
     line (codes "part " ++ decimal part ++ codes " keys " ++ decimal keys ++ codes " size " ++ decimal size
-    ++ codes " buckets " ++ decimal (length pilots))
+      ++ codes " buckets " ++ decimal (length pilots))
     ++ line (codes "pilots" ++ spaced pilots)
 
 -- the seed and the number of keys, before the lines of the partitions
 unfoldable pub seed_lines : ℕ → ℕ → List ℕ
 seed_lines seed keys = line (codes "seed " ++ decimal seed) ++ line (codes "keys " ++ decimal keys)
 
--- why a seed failed: a bucket that has no pilot
-unfoldable pub stuck_line : ℕ → ℕ → ℕ → List ℕ
-stuck_line seed part bucket =
-    line (codes "seed " ++ decimal seed ++ codes ": part " ++ decimal part ++ codes " bucket " ++ decimal bucket
-    ++ codes " has no pilot")
-
 -- no seed of the list led to an end
 abbrev pub seeds_exhausted : List ℕ
 seeds_exhausted = codes "seeds exhausted\n"
+
+-- a seed failed: two lines, by their numbers from 1, have the same pair of hashes
+unfoldable pub same_hash_line : ℕ → ℕ → ℕ → List ℕ
+same_hash_line seed first second =
+    line (codes "seed " ++ decimal seed ++ codes ": lines " ++ decimal first ++ codes " and " ++ decimal second
+      ++ codes " have the same hash")
+
+-- a seed failed: a bucket has no pilot
+unfoldable pub stuck_line : ℕ → ℕ → ℕ → List ℕ
+stuck_line seed part bucket =
+    line (codes "seed " ++ decimal seed ++ codes ": part " ++ decimal part ++ codes " bucket " ++ decimal bucket
+      ++ codes " has no pilot")
+
+-- why a seed failed; places are counted from 0, and line numbers from 1
+abbrev pub cause_line : ℕ → Cause → List ℕ
+cause_line seed (SameHash first second) = same_hash_line seed (first + 1) (second + 1)
+cause_line seed (Stuck part bucket) = stuck_line seed part bucket
+
+-- one line for each seed that has a cause, in order
+abbrev pub cause_lines : List ℕ → List Cause → List ℕ
+cause_lines [] causes = []
+cause_lines (seed ∷ seeds) [] = []
+cause_lines (seed ∷ seeds) (cause ∷ causes) = cause_line seed cause ++ cause_lines seeds causes

@@ -2,6 +2,8 @@
 #![tactic(auto)]
 
 mod answer;
+mod attempt;
+mod outcome;
 mod part;
 mod pilots;
 mod records;
@@ -10,24 +12,16 @@ mod tests;
 mod text;
 mod top;
 
+pub use command_words::{
+    Code, Command, Encoding, How, Options, Settings, WordFault, WordsErr, read_words,
+};
 pub use top::run;
 
-// The settings of `pilots`.
-const SEED: u64 = 1;
-
-const ALPHA: u32 = 98;
-
-const C: u32 = 700;
-
-const PILOT_LIMIT: u64 = 16_777_216;
-
-const MOST_BYTES: u64 = 65_535;
-
-// The statuses that the top call gives by itself.
+// The statuses.
 const WORDS_REFUSED: u8 = 1;
-
 const FILE_FAULT: u8 = 2;
-
+const LIST_REFUSED: u8 = 3;
+const REPEATED_KEY: u8 = 4;
+const SEEDS_EXHAUSTED: u8 = 5;
 const FAILED_OUTPUT: u8 = 8;
-
 const NO_MEMORY: u8 = 9;

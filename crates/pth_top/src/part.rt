@@ -1,44 +1,80 @@
 // One partition of the keys.
-ghost use Rattle.std.specs.Prelude.{◌≡◌, ◌<◌, ◌≤◌, ◌^◌, ℕ, length, replicate, IfOk, IfErr};
+ghost use Rattle.std.specs.Prelude.{◌≡◌, ◌<◌, ◌≤◌, ℕ, length, replicate, IfOk, IfErr};
 ghost use Rattle.pthash.specs.Order.{bucket_at};
 ghost use Rattle.pthash.specs.Sizes.{bucket_count_of};
 ghost use Rattle.pthash.specs.ByBucket.{pilots_by_number};
 ghost use Rattle.pilot_search.specs.Outcome.{IsStuckAt};
-ghost use Rattle.pth_top.specs.Part.{plan_of, ArePilotsOf};
+ghost use Rattle.build_outcome.specs.Attempt.{part_plan, part_of};
+ghost use Rattle.pth_top.specs.Built.{part_answer};
+ghost use Rattle.pth_top.specs.Part.{rules_in, ArePilotsOf};
 
-use bucket_map::{Buckets, MAX_KEYS, NoMemory, Record, bucket_count, ordered_buckets, table_size};
+use bucket_map::{
+    Buckets, MAX_KEYS, NoMemory, Record, bucket_count, ordered_buckets, table_size,
+};
+use command_words::Settings;
 use pilot_search::{Plan, Stuck, place};
 use std::alloc::{AllocError, Global};
 
-/// The pilots of a partition by bucket number, or the bucket that has none.
-pub fn part_pilots(
+/// A partition that was built: how many keys it has, and the pilots of its buckets by number.
+#[derive(Drop)]
+pub struct Part {
+    pub keys: u64,
+    pub pilots: Vec<u64>,
+    ghost few: { keys ≤ 67_108_864 },
+}
+
+/// Builds a partition, or answers the bucket that has no pilot.
+pub fn build_part(
     alloc: Global,
     records: &[Record],
     seed: u64,
-    alpha: u32,
-    c: u32,
-    limit: u64,
+    settings: &Settings,
+) -> Result<Result<Part, u64>, NoMemory>
+    requires few { length records.now ≤ MAX_KEYS }
+    requires some_pilot { 1 ≤ settings.now.limit }
+    requires few_pilots { settings.now.limit ≤ 4_294_967_295 }
+    ensures { IfOk result (λ answer.
+        part_answer answer ≡ part_of (rules_in settings.now) seed records.now) }
+{
+    if records.is_empty() {
+        return Ok(Ok(Part {
+            keys: 0,
+            pilots: Vec::new(alloc),
+        }));
+    }
+    match part_pilots(alloc, records, seed, settings)? {
+        Ok(pilots) => Ok(Ok(Part {
+            keys: records.len() as u64,
+            pilots,
+        })),
+        Err(stuck) => Ok(Err(stuck.bucket)),
+    }
+}
+
+// The pilots of a partition that has a key, by bucket number.
+fn part_pilots(
+    alloc: Global,
+    records: &[Record],
+    seed: u64,
+    settings: &Settings,
 ) -> Result<Result<Vec<u64>, Stuck>, NoMemory>
     requires some { 0 < length records.now }
     requires few { length records.now ≤ MAX_KEYS }
-    requires alpha_low { 50 ≤ alpha }
-    requires alpha_high { alpha ≤ 100 }
-    requires c_low { 100 ≤ c }
-    requires c_high { c ≤ 1500 }
-    requires limit_low { 1 ≤ limit }
-    requires limit_high { limit < 2 ^ 32 }
+    requires some_pilot { 1 ≤ settings.now.limit }
+    requires few_pilots { settings.now.limit ≤ 4_294_967_295 }
     ensures pilots { IfOk result (λ answer. IfOk answer (λ pilots.
-        ArePilotsOf (plan_of records.now seed alpha c limit) (bucket_count_of (length records.now) c)
-        pilots.items)) }
+        ArePilotsOf (part_plan (rules_in settings.now) seed records.now)
+            (bucket_count_of (length records.now) settings.now.shape.c) pilots.items)) }
     ensures stuck { IfOk result (λ answer. IfErr answer (λ stuck.
-        IsStuckAt (plan_of records.now seed alpha c limit) stuck)) }
+        IsStuckAt (part_plan (rules_in settings.now) seed records.now) stuck)) }
 {
     let n = records.len() as u64;
-    let m = bucket_count(n, c);
+    let shape = settings.shape;
+    let m = bucket_count(n, shape.c);
     let plan = Plan {
         seed,
-        size: table_size(n, alpha),
-        limit,
+        size: table_size(n, shape.alpha),
+        limit: settings.limit,
         buckets: ordered_buckets(alloc, records, m)?,
     };
     match place(alloc, &plan)? {
@@ -46,7 +82,6 @@ pub fn part_pilots(
         Err(stuck) => Ok(Err(stuck)),
     }
 }
-
 // The pilots of m buckets by number, from the pilots by rank.
 fn by_number(
     alloc: Global,

@@ -1,25 +1,35 @@
 // The command `pilots`.
 ghost use Rattle.std.specs.Prelude.{◌≡◌, ◌≢◌, ◌≤◌, length, IfOk, IfSome, IsErrOf, IsTrue, Some, None, option_map};
 ghost use Rattle.std.specs.FinMap as map;
+ghost use Rattle.command_words.specs.Options.{options_data, IsInRange};
 ghost use Rattle.pth_outside.specs.Files.{Rose, contents};
-ghost use Rattle.pth_outside.specs.Keys.{keys_of};
+ghost use Rattle.pth_top.specs.Built.{outcome_data};
 ghost use Rattle.pth_top.specs.Done.{done_of};
 ghost use Rattle.pth_top.specs.Ending.{IsOfCommand};
-ghost use Rattle.pth_top.specs.Pilots.{pilots_result, keys_result, too_large_result, no_keys_result, placed_result, stuck_result};
+ghost use Rattle.pth_top.specs.Pilots.{pilots_result, keys_result, outcome_result, too_long_result, too_many_result, no_keys_result};
 
 use crate::answer::{Answer, Stop};
-use crate::part::part_pilots;
-use crate::records::records_of_text;
-use crate::text::{push_part, push_seed, push_stuck, too_large_text};
-use crate::{ALPHA, C, MOST_BYTES, PILOT_LIMIT, SEED, WORDS_REFUSED};
-use bucket_map::{MAX_KEYS, NoMemory, table_size};
-use pth_outside::{Files, WholeErr, read_whole};
+use crate::outcome::{Ended, outcome};
+use crate::text::{
+    built_text, exhausted_text, repeated_key_text, too_long_text, too_many_text,
+};
+use crate::{LIST_REFUSED, REPEATED_KEY, SEEDS_EXHAUSTED, WORDS_REFUSED};
+use bucket_map::NoMemory;
+use command_words::Options;
+use pth_outside::{Files, KeyList, KeysErr, read_keys};
 use std::alloc::{AllocError, Global};
 
 /// Reads a key file, and answers the pilots of its keys or why there are none.
-pub fn pilots<F: Files>(alloc: Global, name: &str, files: &mut F) -> Result<Answer, Stop>
+pub fn pilots<F: Files>(
+    alloc: Global,
+    name: &str,
+    options: &Options,
+    files: &mut F,
+) -> Result<Answer, Stop>
+    requires { IsInRange (options_data options.now) }
     ensures done { IfOk result (λ answer. IfSome (F.told files.old) (λ m.
-        option_map pilots_result (map.get m name.now) ≡ Some (done_of answer))) }
+        option_map (pilots_result (options_data options.now)) (map.get m name.now)
+            ≡ Some (done_of answer))) }
     ensures own { IfOk result (λ answer. IsOfCommand answer.status) }
     ensures not_refused { IfOk result (λ answer. answer.status ≢ WORDS_REFUSED) }
 
@@ -32,36 +42,35 @@ pub fn pilots<F: Files>(alloc: Global, name: &str, files: &mut F) -> Result<Answ
     ensures sure { F.sure files.new ≡ F.sure files.old }
     ensures later { F.faults files.old ≤ F.faults files.new }
 {
-    match read_whole(alloc, files, name, MOST_BYTES) {
-        Ok(bytes) => Ok(pilots_of_bytes(alloc, &bytes)?),
-        Err(WholeErr::TooLarge) => Ok(too_large_answer(alloc)?),
-        Err(WholeErr::Fault) => Err(Stop::Fault),
-        Err(WholeErr::NoMemory) => Err(Stop::NoMemory),
+    match read_keys(alloc, files, name, options.most) {
+        Ok(keys) => Ok(keys_answer(alloc, &keys, options)?),
+        Err(KeysErr::TooLong { line }) => Ok(too_long_answer(alloc, line)?),
+        Err(KeysErr::TooMany) => Ok(too_many_answer(alloc, options.most)?),
+        Err(KeysErr::Fault) => Err(Stop::Fault),
+        Err(KeysErr::NoMemory) => Err(Stop::NoMemory),
     }
 }
 
-// The answer on the bytes of a key file that isn't too large.
-fn pilots_of_bytes(alloc: Global, bytes: &[u8]) -> Result<Answer, NoMemory>
-    requires { length bytes.now ≤ MOST_BYTES }
-    ensures { IfOk result (λ answer. done_of answer ≡ keys_result (keys_of bytes.now)) }
+// The refusal of a file with a line that is too long.
+fn too_long_answer(alloc: Global, number: u64) -> Result<Answer, AllocError>
+    ensures { IfOk result (λ answer. done_of answer ≡ too_long_result number) }
 {
-    let records = records_of_text(alloc, bytes, SEED)?;
-    if records.is_empty() {
-        return Ok(no_keys_answer(alloc)?);
-    }
-    let n = records.len() as u64;
-    match part_pilots(alloc, &records, SEED, ALPHA, C, PILOT_LIMIT)? {
-        Ok(pilots) => Ok(pilots_answer(alloc, n, &pilots)?),
-        Err(stuck) => Ok(stuck_answer(alloc, stuck.bucket)?),
-    }
+    let text = too_long_text(alloc, number)?;
+    Ok(Answer {
+        status: LIST_REFUSED,
+        text,
+    })
 }
 
-// The refusal of a file with more bytes than are read.
-fn too_large_answer(alloc: Global) -> Result<Answer, AllocError>
-    ensures { IfOk result (λ answer. done_of answer ≡ too_large_result) }
+// The refusal of a file with more lines than the limit.
+fn too_many_answer(alloc: Global, most: u64) -> Result<Answer, AllocError>
+    ensures { IfOk result (λ answer. done_of answer ≡ too_many_result most) }
 {
-    let text = too_large_text(alloc, MOST_BYTES)?;
-    Ok(Answer { status: 3, text })
+    let text = too_many_text(alloc, most)?;
+    Ok(Answer {
+        status: LIST_REFUSED,
+        text,
+    })
 }
 
 // The refusal of a file with no key.
@@ -69,25 +78,55 @@ fn no_keys_answer(alloc: Global) -> Result<Answer, AllocError>
     ensures { IfOk result (λ answer. done_of answer ≡ no_keys_result) }
 {
     let text = String::from_str(alloc, "no keys\n")?;
-    Ok(Answer { status: 3, text })
+    Ok(Answer {
+        status: LIST_REFUSED,
+        text,
+    })
 }
 
-// The pilots of n keys.
-fn pilots_answer(alloc: Global, n: u64, pilots: &[u64]) -> Result<Answer, AllocError>
-    requires { n ≤ MAX_KEYS }
-    ensures { IfOk result (λ answer. done_of answer ≡ placed_result n pilots.now) }
+// The answer on the keys of a file.
+fn keys_answer(alloc: Global, keys: &KeyList, options: &Options) -> Result<Answer, NoMemory>
+    requires in_range { IsInRange (options_data options.now) }
+    requires few { length keys.now ≤ options.now.most }
+    ensures { IfOk result (λ answer.
+        done_of answer ≡ keys_result (options_data options.now) keys.now) }
 {
-    let mut text = String::new(alloc);
-    push_seed(&mut text, SEED, n)?;
-    push_part(&mut text, 0, n, table_size(n, ALPHA), pilots)?;
-    Ok(Answer { status: 0, text })
+    let n = keys.len();
+    if n == 0 {
+        return Ok(no_keys_answer(alloc)?);
+    }
+    let ended = outcome(alloc, keys, &options.settings)?;
+    Ok(outcome_answer(alloc, n, &ended, options)?)
 }
 
-// The refusal where a bucket has no pilot.
-fn stuck_answer(alloc: Global, bucket: u64) -> Result<Answer, AllocError>
-    ensures { IfOk result (λ answer. done_of answer ≡ stuck_result bucket) }
+// The answer on an outcome for n keys.
+fn outcome_answer(
+    alloc: Global,
+    n: u64,
+    ended: &Ended,
+    options: &Options,
+) -> Result<Answer, AllocError>
+    ensures { IfOk result (λ answer.
+        done_of answer ≡ outcome_result (options_data options.now) n (outcome_data ended.now)) }
 {
-    let mut text = String::from_str(alloc, "seeds exhausted\n")?;
-    push_stuck(&mut text, SEED, 0, bucket)?;
-    Ok(Answer { status: 5, text })
+    match ended {
+        Ended::Built { seed, parts } => {
+            let text = built_text(alloc, n, *seed, parts, options.settings.shape)?;
+            Ok(Answer { status: 0, text })
+        }
+        Ended::Repeated { first, second } => {
+            let text = repeated_key_text(alloc, *first, *second)?;
+            Ok(Answer {
+                status: REPEATED_KEY,
+                text,
+            })
+        }
+        Ended::Exhausted { causes } => {
+            let text = exhausted_text(alloc, &options.settings.seeds, causes)?;
+            Ok(Answer {
+                status: SEEDS_EXHAUSTED,
+                text,
+            })
+        }
+    }
 }

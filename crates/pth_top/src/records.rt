@@ -1,44 +1,35 @@
-// The keys of a text as records.
-ghost use Rattle.std.specs.Prelude.{◌≡◌, ◌∷◌, ◌<◌, ◌≤◌, length, IfOk};
+// The keys of a list as records.
+ghost use Rattle.std.specs.Prelude.{◌≡◌, ◌↔◌, IfOk, IfSome, IsNone};
 ghost use Rattle.pthash.specs.Records.{records_of};
-ghost use Rattle.pth_outside.specs.Keys.{keys_of};
+ghost use Rattle.bucket_map.specs.Clash.{HasDistinctPairs, HasDistinctOrdinals, IsLeastClash};
 
-use bucket_map::Record;
-use memchr::memchr;
+use bucket_map::{Record, least_clash};
 use murmur64::hash_pair;
-use pth_outside::LINE_FEED;
+use pth_outside::KeyList;
 use std::alloc::{AllocError, Global};
 
-/// The records of the keys of a text at a seed.
-pub fn records_of_text(alloc: Global, text: &[u8], seed: u64) -> Result<Vec<Record>, AllocError>
-    ensures records { IfOk result (λ records.
-        records.items ≡ records_of (keys_of text.now) seed) }
-    ensures few { IfOk result (λ records. length records.items ≤ length text.now) }
+/// The records of the keys at a seed.
+pub fn records_of_keys(alloc: Global, keys: &KeyList, seed: u64) -> Result<Vec<Record>, AllocError>
+    ensures { IfOk result (λ records. records.items ≡ records_of keys.now seed) }
 {
-    let mut records = Vec::new(alloc);
-    let mut rest = text;
-    while !rest.is_empty() {
-        let (key, after) = first_key(rest);
-        let pair = hash_pair(key, seed);
-        let ordinal = records.len() as u64;
+    let mut records = Vec::with_capacity(alloc, keys.len() as usize)?;
+    for place in 0..keys.len() {
+        let pair = hash_pair(keys.key(place), seed);
         records.push(Record {
             a: pair.a,
             b: pair.b,
-            ordinal,
+            ordinal: place,
         })?;
-        rest = after;
     }
     Ok(records)
 }
 
-// The first key of a text, and the text behind it.
-fn first_key(text: &[u8]) -> (&[u8], &[u8])
-    requires { 0 < length text.now }
-    ensures keys { keys_of text.now ≡ result.0.now ∷ keys_of result.1.now }
-    ensures shorter { length result.1.now < length text.now }
+/// The first record that repeats an earlier one's pair of hashes, by both ordinals, the earlier one first.
+pub fn first_clash(alloc: Global, records: &[Record]) -> Result<Option<(u64, u64)>, AllocError>
+    ensures none { IfOk result (λ clash. IsNone clash ↔ HasDistinctPairs records.now) }
+    ensures least { HasDistinctOrdinals records.now →
+        IfOk result (λ clash. IfSome clash (λ c. IsLeastClash records.now c.0 c.1)) }
 {
-    match memchr(LINE_FEED, text) {
-        Some(end) => (&text[..end], &text[end + 1..]),
-        None => (text, &text[text.len()..]),
-    }
+    let mut sorted = Vec::from_slice(alloc, records)?;
+    Ok(least_clash(&mut sorted))
 }

@@ -1,7 +1,13 @@
 // The texts that commands print, appended piece by piece.
-ghost use Rattle.std.specs.Prelude.{◌≡◌, ◌++◌, OnOk, IfOk, string_bytes, decimal};
-ghost use Rattle.pth_top.specs.Texts.{part_lines, seed_lines, spaced, stuck_line, seeds_exhausted, file_too_large};
+ghost use Rattle.std.specs.Prelude.{◌≡◌, ◌+◌, ◌++◌, List, OnOk, IfOk, string_bytes, decimal, map};
+ghost use Rattle.pth_top.specs.Built.{part_data};
+ghost use Rattle.pth_top.specs.Pilots.{parts_lines};
+ghost use Rattle.pth_top.specs.Texts.{cause_line, cause_lines, kind_name, part_lines, refused_word, repeated_key, same_hash_line, seed_lines, seeds_exhausted, spaced, stuck_line, too_long, too_many};
 
+use crate::part::Part;
+use bucket_map::{Shape, table_size};
+use build_outcome::Cause;
+use command_words::{WordFault, kinds};
 use std::alloc::{AllocError, Global};
 use std::fmt::Write;
 
@@ -23,8 +29,8 @@ fn push_pilots(text: &mut String, pilots: &[u64]) -> Result<(), AllocError>
     Ok(())
 }
 
-/// Appends the seed and the number of keys, a line each.
-pub fn push_seed(text: &mut String, seed: u64, keys: u64) -> Result<(), AllocError>
+// Appends the seed and the number of keys, a line each.
+fn push_seed(text: &mut String, seed: u64, keys: u64) -> Result<(), AllocError>
     ensures { OnOk result
         (string_bytes text.new ≡ string_bytes text.old ++ seed_lines seed keys) }
 {
@@ -34,8 +40,8 @@ pub fn push_seed(text: &mut String, seed: u64, keys: u64) -> Result<(), AllocErr
     Ok(())
 }
 
-/// Appends the two lines of a partition.
-pub fn push_part(
+// Appends the two lines of a partition.
+fn push_part(
     text: &mut String,
     part: u64,
     keys: u64,
@@ -55,24 +61,166 @@ pub fn push_part(
     Ok(())
 }
 
-/// Appends the line on a seed at which a bucket has no pilot.
-pub fn push_stuck(text: &mut String, seed: u64, part: u64, bucket: u64) -> Result<(), AllocError>
+// Appends a label and the number from 1 of a place counted from 0.
+fn push_place(text: &mut String, label: &str, place: u64) -> Result<(), AllocError>
+    ensures { OnOk result
+        (string_bytes text.new ≡ string_bytes text.old ++ (label.now ++ decimal (place + 1))) }
+{
+    let number = u128::from(place) + 1;
+    write!(text, "{label}{number}")
+}
+
+// Appends the line on a seed at which a bucket has no pilot.
+fn push_stuck(text: &mut String, seed: u64, part: u32, bucket: u64) -> Result<(), AllocError>
     ensures { OnOk result
         (string_bytes text.new ≡ string_bytes text.old ++ stuck_line seed part bucket) }
 {
     push_number(text, "seed ", seed)?;
-    push_number(text, ": part ", part)?;
+    push_number(text, ": part ", part as u64)?;
     push_number(text, " bucket ", bucket)?;
     text.push_str(" has no pilot\n")?;
     Ok(())
 }
 
-/// The refusal of a key file with more bytes than this.
-pub fn too_large_text(alloc: Global, limit: u64) -> Result<String, AllocError>
-    ensures { IfOk result (λ text. string_bytes text ≡ file_too_large limit) }
+// Appends the line on a seed at which the keys at two places have the same pair of hashes.
+fn push_same_hash(
+    text: &mut String,
+    seed: u64,
+    first: u64,
+    second: u64,
+) -> Result<(), AllocError>
+    ensures { OnOk result
+        (string_bytes text.new
+            ≡ string_bytes text.old ++ same_hash_line seed (first + 1) (second + 1)) }
+{
+    push_number(text, "seed ", seed)?;
+    push_place(text, ": lines ", first)?;
+    push_place(text, " and ", second)?;
+    text.push_str(" have the same hash\n")?;
+    Ok(())
+}
+
+// Appends the line on why a seed failed.
+fn push_cause(text: &mut String, seed: u64, cause: Cause) -> Result<(), AllocError>
+    ensures { OnOk result
+        (string_bytes text.new ≡ string_bytes text.old ++ cause_line seed cause) }
+{
+    match cause {
+        Cause::SameHash { first, second } => push_same_hash(text, seed, first, second),
+        Cause::Stuck { part, bucket } => push_stuck(text, seed, part, bucket),
+    }
+}
+
+// Appends a line for each seed that has a cause, in order.
+fn push_causes(text: &mut String, seeds: &[u64], causes: &[Cause]) -> Result<(), AllocError>
+    ensures { OnOk result
+        (string_bytes text.new ≡ string_bytes text.old ++ cause_lines seeds.now causes.now) }
+{
+    for i in 0..seeds.len().min(causes.len()) {
+        push_cause(text, seeds[i], causes[i])?;
+    }
+    Ok(())
+}
+
+// Appends the lines of all partitions.
+fn push_parts(text: &mut String, shape: Shape, parts: &[Part]) -> Result<(), AllocError>
+    ensures { OnOk result (string_bytes text.new
+        ≡ string_bytes text.old ++ parts_lines shape.alpha 0 (map part_data parts.now)) }
+{
+    for (number, part) in parts.iter().enumerate() {
+        let size = table_size(part.keys, shape.alpha);
+        push_part(text, number as u64, part.keys, size, &part.pilots)?;
+    }
+    Ok(())
+}
+
+/// The pilots of n keys, partition by partition.
+pub fn built_text(
+    alloc: Global,
+    n: u64,
+    seed: u64,
+    parts: &[Part],
+    shape: Shape,
+) -> Result<String, AllocError>
+    ensures { IfOk result (λ text. string_bytes text
+        ≡ seed_lines seed n ++ parts_lines shape.alpha 0 (map part_data parts.now)) }
 {
     let mut text = String::new(alloc);
-    push_number(&mut text, "file too large: limit ", limit)?;
+    push_seed(&mut text, seed, n)?;
+    push_parts(&mut text, shape, parts)?;
+    Ok(text)
+}
+
+/// The refusal of a list for which no seed led to an end.
+pub fn exhausted_text(
+    alloc: Global,
+    seeds: &[u64],
+    causes: &[Cause],
+) -> Result<String, AllocError>
+    ensures { IfOk result (λ text.
+        string_bytes text ≡ seeds_exhausted ++ cause_lines seeds.now causes.now) }
+{
+    let mut text = String::from_str(alloc, "seeds exhausted\n")?;
+    push_causes(&mut text, seeds, causes)?;
+    Ok(text)
+}
+
+/// The refusal of words.
+pub fn refused_word_text(alloc: Global, fault: WordFault) -> Result<String, AllocError>
+    ensures { IfOk result (λ text. string_bytes text ≡ refused_word fault.word fault.kind) }
+{
+    let mut text = String::new(alloc);
+    push_number(&mut text, "word ", fault.word)?;
+    text.push_str(": ")?;
+    text.push_str(kind_text(fault.kind))?;
+    text.push_str("\n")?;
+    Ok(text)
+}
+
+// The name of a kind of fault in a word.
+fn kind_text(kind: u8) -> &'static str
+    ensures { result.now ≡ kind_name kind }
+{
+    match kind {
+        kinds::COMMAND => "command",
+        kinds::MISSING => "missing",
+        kinds::EXTRA => "extra",
+        kinds::NAME => "name",
+        kinds::REPEATED => "repeated",
+        kinds::NUMBER => "number",
+        kinds::RANGE => "range",
+        _ => "same name",
+    }
+}
+
+/// The refusal of a key file with a line that is too long, by its number from 1.
+pub fn too_long_text(alloc: Global, number: u64) -> Result<String, AllocError>
+    ensures { IfOk result (λ text. string_bytes text ≡ too_long number) }
+{
+    let mut text = String::new(alloc);
+    push_number(&mut text, "line ", number)?;
+    text.push_str(" is too long\n")?;
+    Ok(text)
+}
+
+/// The refusal of a key file with more lines than this.
+pub fn too_many_text(alloc: Global, most: u64) -> Result<String, AllocError>
+    ensures { IfOk result (λ text. string_bytes text ≡ too_many most) }
+{
+    let mut text = String::new(alloc);
+    push_number(&mut text, "too many keys: limit ", most)?;
+    text.push_str("\n")?;
+    Ok(text)
+}
+
+/// The refusal of a list with the same key at two places.
+pub fn repeated_key_text(alloc: Global, first: u64, second: u64) -> Result<String, AllocError>
+    ensures { IfOk result (λ text.
+        string_bytes text ≡ repeated_key (first + 1) (second + 1)) }
+{
+    let mut text = String::new(alloc);
+    push_place(&mut text, "repeated key: lines ", first)?;
+    push_place(&mut text, " and ", second)?;
     text.push_str("\n")?;
     Ok(text)
 }

@@ -1,15 +1,19 @@
 // The top call: from the words to a status and a text.
-ghost use Rattle.std.specs.Prelude.{◌≡◌, ◌≢◌, ◌⊎◌, IfOk, IfSome, IsSome, IsSomeAnd, IsErrOf, IsTrue, Some, None};
-ghost use Rattle.std.specs.Option.{option_copied};
+ghost use Rattle.std.specs.Prelude.{◌≡◌, ◌≢◌, ◌⊎◌, IfOk, IfSome, IsOk, IsErr, IsSomeAnd, IsErrOf, IsTrue, Some, None};
 ghost use Rattle.pth_outside.specs.Files.{Rose};
 ghost use Rattle.pth_outside.specs.Sink.{written, Prints, WritesFront};
 ghost use Rattle.pth_top.specs.Done.{done_of};
 ghost use Rattle.pth_top.specs.Ending.{IsOfCommand, EndsAs};
 ghost use Rattle.pth_top.specs.Texts.{file_fault, no_memory};
-ghost use Rattle.pth_top.specs.Words.{words_of, key_file_of, refused, done};
+ghost use Rattle.command_words.specs.declared.faults.WordFault.{WordFault};
+ghost use Rattle.command_words.specs.Options.{words_of};
+ghost use Rattle.command_words.specs.Words.{command_of};
+ghost use Rattle.pth_top.specs.Words.{refused, done};
 
 use crate::answer::{Answer, Stop};
 use crate::pilots::pilots;
+use crate::text::refused_word_text;
+use command_words::{Command, WordFault, WordsErr, read_words};
 use crate::{FAILED_OUTPUT, FILE_FAULT, NO_MEMORY, WORDS_REFUSED};
 use pth_outside::{Files, Sink, SinkErr};
 use std::alloc::{AllocError, Global};
@@ -29,10 +33,10 @@ pub fn run<R, F: Files, O: Sink>(
         EndsAs d result (O.told out.old) (O.told out.new) (O.faults out.old) (O.faults out.new))) }
 
     // Words that ask for nothing are refused, whatever the files tell, with no call on them.
-    ensures refused { key_file_of (words_of words.now) ≡ None → result ≢ NO_MEMORY →
-        EndsAs refused result (O.told out.old) (O.told out.new) (O.faults out.old) (O.faults out.new) }
-    ensures no_call { key_file_of (words_of words.now) ≡ None → files.new ≡ files.old }
-    ensures only_refused { result ≡ WORDS_REFUSED → key_file_of (words_of words.now) ≡ None }
+    ensures refused { (fault : WordFault) → command_of (words_of words.now) ≡ Err fault →
+        result ≢ NO_MEMORY → EndsAs (refused fault) result (O.told out.old) (O.told out.new) (O.faults out.old) (O.faults out.new) }
+    ensures no_call { IsErr (command_of (words_of words.now)) → files.new ≡ files.old }
+    ensures only_refused { result ≡ WORDS_REFUSED → IsErr (command_of (words_of words.now)) }
 
     // A file fault comes only where the files failed, and over sure files only where the key file is missing.
     ensures fault { result ≡ FILE_FAULT → Rose (F.faults files.old) (F.faults files.new) }
@@ -68,13 +72,13 @@ fn answer<F: Files>(alloc: Global, words: &[String], files: &mut F) -> Result<An
         done (words_of words.now) m ≡ Some (done_of answer))) }
     ensures own { IfOk result (λ answer. IsOfCommand answer.status) }
 
-    ensures refused { key_file_of (words_of words.now) ≡ None →
-        IfOk result (λ answer. done_of answer ≡ refused) }
-    ensures no_call { key_file_of (words_of words.now) ≡ None → files.new ≡ files.old }
+    ensures refused { (fault : WordFault) → command_of (words_of words.now) ≡ Err fault →
+        IfOk result (λ answer. done_of answer ≡ refused fault) }
+    ensures no_call { IsErr (command_of (words_of words.now)) → files.new ≡ files.old }
     ensures only_refused { IfOk result (λ answer. answer.status ≡ WORDS_REFUSED →
-        key_file_of (words_of words.now) ≡ None) }
+        IsErr (command_of (words_of words.now))) }
 
-    ensures asked { IsErrOf result Stop.Fault → IsSome (key_file_of (words_of words.now)) }
+    ensures asked { IsErrOf result Stop.Fault → IsOk (command_of (words_of words.now)) }
     ensures fault { IsErrOf result Stop.Fault → Rose (F.faults files.old) (F.faults files.new) }
     ensures missing { IsErrOf result Stop.Fault → IsTrue (F.sure files.old) →
         IfSome (F.told files.old) (λ m. done (words_of words.now) m ≡ None) }
@@ -82,27 +86,18 @@ fn answer<F: Files>(alloc: Global, words: &[String], files: &mut F) -> Result<An
     ensures told { F.told files.new ≡ F.told files.old }
     ensures sure { F.sure files.new ≡ F.sure files.old }
 {
-    match key_file(words) {
-        Some(name) => pilots(alloc, name, files),
-        None => Ok(refusal(alloc)?),
+    match read_words(alloc, words) {
+        Ok(Command::Pilots { keys, options }) => pilots(alloc, &keys, &options, files),
+        Err(WordsErr::Bad(fault)) => Ok(refusal(alloc, fault)?),
+        Err(WordsErr::NoMemory) => Err(Stop::NoMemory),
     }
 }
 
-// The name of the key file, where the words are `pilots` and one name.
-fn key_file(words: &[String]) -> Option<&str>
-    ensures { option_copied result ≡ key_file_of (words_of words.now) }
+// The answer to words with a fault.
+fn refusal(alloc: Global, fault: WordFault) -> Result<Answer, AllocError>
+    ensures { IfOk result (λ answer. done_of answer ≡ refused fault) }
 {
-    match words {
-        [command, name] if command.as_str() == "pilots" => Some(name.as_str()),
-        _ => None,
-    }
-}
-
-// The answer to words that ask for nothing.
-fn refusal(alloc: Global) -> Result<Answer, AllocError>
-    ensures { IfOk result (λ answer. done_of answer ≡ refused) }
-{
-    let text = String::from_str(alloc, "word 0: command\n")?;
+    let text = refused_word_text(alloc, fault)?;
     Ok(Answer {
         status: WORDS_REFUSED,
         text,

@@ -1,6 +1,6 @@
 use Rattle.std.proofs.Common.{refl, ◌∙◌, ◌≡◌, ap, sym, arith, length, ◌++◌, ◌∷◌, [], List, ℕ, Ok, Err, length-append}
 use Rattle.pth_outside.specs.declared.line_reader.LineErr.TheVariants.{TooLong}
-use Rattle.pth_outside.proofs.KeyFileLemmas.{so_far_new, so_far_more, names_line, many_by_long, many_by_line}
+use Rattle.pth_outside.proofs.KeyFileLemmas.{no_long, so_far_new, so_far_more, names_line, many_by_long, many_by_line}
 use Rattle.pth_outside.proofs.key_file.read_keys.Goals as goal
 
 pub loop-keys-init : goal.loop-keys-init
@@ -41,3 +41,6 @@ returns-in-Err-TooLong-clause-too_long g c line is =
     names_line c.args.name.now (g.F.Files.told c.args.files.now) (g.F.Files.told c.loop-keys.files) c.loop-keys.reader c.next_line.new.self c.loop-keys.keys c.args.most line
     kept.1 kept.0.told (omega (arith, c.len.ensures, c.if-full-2.false, kept.2))
     (c.in-Err-TooLong.ensures.too_long line (ap Err c.in-Err-TooLong.field-0-is ∙ ap (λ (n : ℕ). Err (TooLong n)) number))
+
+pub returns-in-Ok-End-clause-short : goal.returns-in-Ok-End-clause-short
+returns-in-Ok-End-clause-short g c = no_long 1 c.loop-keys.keys c.loop-keys.invariant.1.short
