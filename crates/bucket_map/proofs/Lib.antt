@@ -10,3 +10,4 @@ pub mod Later
 pub mod Neighbours
 pub mod LeastClash
 pub mod Moved
+pub mod Parts

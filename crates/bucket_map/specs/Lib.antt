@@ -1,6 +1,9 @@
 pub use Rattle.pthash.specs.Sizes
 pub use Rattle.pthash.specs.Order
+pub use Rattle.pthash.specs.Partitions
 pub mod Grouping
 pub mod Ranking
 pub mod Layout
 pub mod Clash
+pub mod Parting
+pub mod PartLayout

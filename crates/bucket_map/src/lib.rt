@@ -4,12 +4,14 @@
 mod clash;
 mod group;
 mod order;
+mod partition;
 mod sizes;
 #[cfg(test)]
 mod tests;
 
 pub use crate::clash::least_clash;
 pub use crate::order::{Buckets, NoMemory, ordered_buckets};
+pub use crate::partition::{Partitions, partitioned};
 pub use crate::sizes::{
     MAX_BUCKETS, MAX_KEYS, Shape, bucket_count, bucket_of, front_count, partition_of, table_size,
 };

@@ -79,3 +79,29 @@ fn the_least_repeated_ordinal_is_found(rt: HostRuntime) {
     assert_eq!(rt; least_clash(&mut records), Some((1, 2)));
     assert_eq!(rt; least_clash(&mut records[..1]), None);
 }
+
+#[test]
+fn each_partition_keeps_the_order_of_the_list(rt: HostRuntime) -> Result<(), Fail> {
+    let mut records = Vec::new(rt.alloc());
+    for (i, a) in [u64::MAX, 0, 1 << 63, 1, u64::MAX - 1].iter().enumerate() {
+        let ordinal = i as u64;
+        records.push(Record {
+            a: *a,
+            b: 0,
+            ordinal,
+        })?;
+    }
+    let parts = partitioned(rt.alloc(), &records, 4)?;
+    let wanted: [&[u64]; 4] = [&[1, 3], &[], &[2], &[0, 4]];
+    assert_eq!(rt; parts.len(), 4);
+    for (part, ordinals) in wanted.iter().enumerate() {
+        let part = part as u64;
+        assert!(rt; part < parts.len());
+        let found = parts.records(part);
+        assert_eq!(rt; found.len(), ordinals.len());
+        for (r, ordinal) in found.iter().zip(*ordinals) {
+            assert_eq!(rt; r.ordinal, *ordinal);
+        }
+    }
+    Ok(())
+}
