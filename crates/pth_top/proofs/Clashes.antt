@@ -18,7 +18,7 @@ length-records_from place [] seed = refl
 length-records_from place (key ∷ keys) seed = ap suc (length-records_from (place + 1) keys seed)
 
 get_or-records_from : (place : ℕ) (keys : List (List ℕ)) (seed k : ℕ) (d : Record) → k < length keys
-  → get_or (records_from place keys seed) k d ≡ record { a = first_hash (key_at keys k) seed; b = second_hash (key_at keys k) seed; ordinal = place + k }
+    → get_or (records_from place keys seed) k d ≡ record { a = first_hash (key_at keys k) seed; b = second_hash (key_at keys k) seed; ordinal = place + k }
 get_or-records_from place [] seed k d within = absurd (omega arith)
 get_or-records_from place (key ∷ keys) seed zero d within =
     let same : place ≡ place + 0 = omega arith in
@@ -26,14 +26,14 @@ get_or-records_from place (key ∷ keys) seed zero d within =
 get_or-records_from place (key ∷ keys) seed (suc k) d within =
     let same : place + 1 + k ≡ place + suc k = omega arith in
     get_or-records_from (place + 1) keys seed k d (omega arith)
-      ∙ (λ i. record { a = first_hash (key_at keys k) seed; b = second_hash (key_at keys k) seed; ordinal = same i })
+    ∙ (λ i. record { a = first_hash (key_at keys k) seed; b = second_hash (key_at keys k) seed; ordinal = same i })
 
 -- the record at a place is that of the key there
 pub get_or-records_of : (keys : List (List ℕ)) (seed k : ℕ) (d : Record) → k < length keys → get_or (records_of keys seed) k d ≡ record_of keys seed k
 get_or-records_of keys seed k d within =
     let same : 0 + k ≡ k = omega arith in
     get_or-records_from 0 keys seed k d within
-      ∙ (λ i. record { a = first_hash (key_at keys k) seed; b = second_hash (key_at keys k) seed; ordinal = same i })
+    ∙ (λ i. record { a = first_hash (key_at keys k) seed; b = second_hash (key_at keys k) seed; ordinal = same i })
 
 -- the ordinals are the places, so they differ
 pub ordinals_differ : (keys : List (List ℕ)) (seed : ℕ) → HasDistinctOrdinals (records_of keys seed)
@@ -59,9 +59,10 @@ clash_of_twins keys seed x y before within twins =
       second_inside = omega arith;
       first_ordinal = ap (λ (r : Record). r.ordinal) first;
       second_ordinal = ap (λ (r : Record). r.ordinal) second;
-      same_pair =
-        (ap (λ (r : Record). r.a) first ∙ eqb-true (first_hash (key_at keys x) seed) (first_hash (key_at keys y) seed) parts.0 ∙ sym (ap (λ (r : Record). r.a) second),
-         ap (λ (r : Record). r.b) first ∙ eqb-true (second_hash (key_at keys x) seed) (second_hash (key_at keys y) seed) parts.1 ∙ sym (ap (λ (r : Record). r.b) second));
+      same_pair = (
+        ap (λ (r : Record). r.a) first ∙ eqb-true (first_hash (key_at keys x) seed) (first_hash (key_at keys y) seed) parts.0 ∙ sym (ap (λ (r : Record). r.a) second),
+        ap (λ (r : Record). r.b) first ∙ eqb-true (second_hash (key_at keys x) seed) (second_hash (key_at keys y) seed) parts.1 ∙ sym (ap (λ (r : Record). r.b) second),
+      );
     }
 
 -- a clash of records, at their places
@@ -78,8 +79,8 @@ twins_of_clash keys seed i j clash =
     let same_a : first_hash (key_at keys clash.first) seed ≡ first_hash (key_at keys clash.second) seed = sym (ap (λ (r : Record). r.a) first) ∙ clash.same_pair.0 ∙ ap (λ (r : Record). r.a) second in
     let same_b : second_hash (key_at keys clash.first) seed ≡ second_hash (key_at keys clash.second) seed = sym (ap (λ (r : Record). r.b) first) ∙ clash.same_pair.1 ∙ ap (λ (r : Record). r.b) second in
     let twins : is_twin keys seed clash.second clash.first ≡ true =
-      and_from (first_hash (key_at keys clash.first) seed == first_hash (key_at keys clash.second) seed) (second_hash (key_at keys clash.first) seed == second_hash (key_at keys clash.second) seed)
-        (eq-eqb (first_hash (key_at keys clash.first) seed) (first_hash (key_at keys clash.second) seed) same_a) (eq-eqb (second_hash (key_at keys clash.first) seed) (second_hash (key_at keys clash.second) seed) same_b) in
+    and_from (first_hash (key_at keys clash.first) seed == first_hash (key_at keys clash.second) seed) (second_hash (key_at keys clash.first) seed == second_hash (key_at keys clash.second) seed)
+    (eq-eqb (first_hash (key_at keys clash.first) seed) (first_hash (key_at keys clash.second) seed) same_a) (eq-eqb (second_hash (key_at keys clash.first) seed) (second_hash (key_at keys clash.second) seed) same_b) in
     (omega arith, subst (λ (p : ℕ). is_twin keys seed p i ≡ true) at_j (subst (λ (p : ℕ). is_twin keys seed clash.second p ≡ true) at_i twins))
 
 first_clash_of_least : (keys : List (List ℕ)) (seed i j : ℕ) → IsLeastClash (records_of keys seed) i j → IsFirstClash keys seed i j
@@ -90,19 +91,19 @@ first_clash_of_least keys seed i j least =
       within = place.0;
       twins = place.1;
       least_second = λ x y before lower. false_from_ne_true (is_twin keys seed y x)
-        (λ twins. let later : j ≤ y = least.least_second x y before (clash_of_twins keys seed x y before (omega (arith, place.0)) twins) in absurd (omega arith));
+          (λ twins. let later : j ≤ y = least.least_second x y before (clash_of_twins keys seed x y before (omega (arith, place.0)) twins) in absurd (omega arith));
       least_first = λ x lower. false_from_ne_true (is_twin keys seed j x)
-        (λ twins. let later : i ≤ x = least.least_first x (omega (arith, least.earlier)) (clash_of_twins keys seed x j (omega (arith, least.earlier)) place.0 twins) in absurd (omega arith));
+          (λ twins. let later : i ≤ x = least.least_first x (omega (arith, least.earlier)) (clash_of_twins keys seed x j (omega (arith, least.earlier)) place.0 twins) in absurd (omega arith));
     }
 
 no_twins : (keys : List (List ℕ)) (seed : ℕ) → HasDistinctPairs (records_of keys seed) → (x y : ℕ) → x < y → y < length keys → is_twin keys seed y x ≡ false
 no_twins keys seed distinct x y before within =
     false_from_ne_true (is_twin keys seed y x)
-      (λ twins. distinct x y (record { a = 0; b = 0; ordinal = 0 }) before (omega (arith, length-records_from 0 keys seed)) (clash_of_twins keys seed x y before within twins).same_pair)
+    (λ twins. distinct x y (record { a = 0; b = 0; ordinal = 0 }) before (omega (arith, length-records_from 0 keys seed)) (clash_of_twins keys seed x y before within twins).same_pair)
 
 -- what `least_clash` answers on the records of the keys is the first clash of the keys
 pub clash_of_records : (keys : List (List ℕ)) (seed : ℕ) (answer : Option (ℕ × ℕ)) → (IsNone answer ↔ HasDistinctPairs (records_of keys seed))
-  → (HasDistinctOrdinals (records_of keys seed) → IfSome answer (λ c. IsLeastClash (records_of keys seed) c.0 c.1)) → answer ≡ clash_of keys seed
+    → (HasDistinctOrdinals (records_of keys seed) → IfSome answer (λ c. IsLeastClash (records_of keys seed) c.0 c.1)) → answer ≡ clash_of keys seed
 clash_of_records keys seed None none least = sym (clash_of-none keys seed (no_twins keys seed (none.0 refl)))
 clash_of_records keys seed (Some c) none least =
     sym (clash_of-found keys seed c.0 c.1 (first_clash_of_least keys seed c.0 c.1 (least (ordinals_differ keys seed))))

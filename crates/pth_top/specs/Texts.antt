@@ -56,7 +56,7 @@ spaced numbers = flat_map (λ n. 32 ∷ decimal n) numbers
 unfoldable pub part_lines : ℕ → ℕ → ℕ → List ℕ → List ℕ
 part_lines part keys size pilots =
     line (codes "part " ++ decimal part ++ codes " keys " ++ decimal keys ++ codes " size " ++ decimal size
-      ++ codes " buckets " ++ decimal (length pilots))
+    ++ codes " buckets " ++ decimal (length pilots))
     ++ line (codes "pilots" ++ spaced pilots)
 
 -- the seed and the number of keys, before the lines of the partitions
@@ -71,13 +71,13 @@ seeds_exhausted = codes "seeds exhausted\n"
 unfoldable pub same_hash_line : ℕ → ℕ → ℕ → List ℕ
 same_hash_line seed first second =
     line (codes "seed " ++ decimal seed ++ codes ": lines " ++ decimal first ++ codes " and " ++ decimal second
-      ++ codes " have the same hash")
+    ++ codes " have the same hash")
 
 -- a seed failed: a bucket has no pilot
 unfoldable pub stuck_line : ℕ → ℕ → ℕ → List ℕ
 stuck_line seed part bucket =
     line (codes "seed " ++ decimal seed ++ codes ": part " ++ decimal part ++ codes " bucket " ++ decimal bucket
-      ++ codes " has no pilot")
+    ++ codes " has no pilot")
 
 -- why a seed failed; places are counted from 0, and line numbers from 1
 abbrev pub cause_line : ℕ → Cause → List ℕ

@@ -9,7 +9,7 @@ use crate::records::{first_clash, records_of_keys};
 use bucket_map::{MAX_KEYS, NoMemory, Partitions, partitioned};
 use command_words::Settings;
 use pth_outside::KeyList;
-use std::alloc::Global;
+use std::alloc::{AllocError, Global};
 
 /// What an attempt at a seed came to.
 #[derive(Drop)]
@@ -62,7 +62,7 @@ fn build_parts(
     let mut parts = Vec::new(alloc);
     for part in 0..partitions.len() {
         match build_part(alloc, partitions.records(part), seed, settings)? {
-            Ok(built) => parts.push(built)?,
+            Ok(built) => parts.push(built).map_err(AllocError::from)?,
             Err(bucket) => {
                 return Ok(Tried::Stuck {
                     part: part as u32,

@@ -19,9 +19,15 @@ pub use top::run;
 
 // The statuses.
 const WORDS_REFUSED: u8 = 1;
+
 const FILE_FAULT: u8 = 2;
+
 const LIST_REFUSED: u8 = 3;
+
 const REPEATED_KEY: u8 = 4;
+
 const SEEDS_EXHAUSTED: u8 = 5;
+
 const FAILED_OUTPUT: u8 = 8;
+
 const NO_MEMORY: u8 = 9;

@@ -10,7 +10,7 @@ use bucket_map::{MAX_KEYS, NoMemory};
 use build_outcome::Cause;
 use command_words::Settings;
 use pth_outside::KeyList;
-use std::alloc::Global;
+use std::alloc::{AllocError, Global};
 
 /// What a build came to.
 #[derive(Drop)]
@@ -41,9 +41,15 @@ pub fn outcome(alloc: Global, keys: &KeyList, settings: &Settings) -> Result<End
                 if keys.key(first) == keys.key(second) {
                     return Ok(Ended::Repeated { first, second });
                 }
-                causes.push(Cause::SameHash { first, second })?;
+                causes
+                    .push(Cause::SameHash { first, second })
+                    .map_err(AllocError::from)?;
             }
-            Tried::Stuck { part, bucket } => causes.push(Cause::Stuck { part, bucket })?,
+            Tried::Stuck { part, bucket } => {
+                causes
+                    .push(Cause::Stuck { part, bucket })
+                    .map_err(AllocError::from)?;
+            }
         }
     }
     Ok(Ended::Exhausted { causes })

@@ -8,9 +8,7 @@ ghost use Rattle.build_outcome.specs.Attempt.{part_plan, part_of};
 ghost use Rattle.pth_top.specs.Built.{part_answer};
 ghost use Rattle.pth_top.specs.Part.{rules_in, ArePilotsOf};
 
-use bucket_map::{
-    Buckets, MAX_KEYS, NoMemory, Record, bucket_count, ordered_buckets, table_size,
-};
+use bucket_map::{Buckets, MAX_KEYS, NoMemory, Record, bucket_count, ordered_buckets, table_size};
 use command_words::Settings;
 use pilot_search::{Plan, Stuck, place};
 use std::alloc::{AllocError, Global};
@@ -64,7 +62,7 @@ fn part_pilots(
     requires few_pilots { settings.now.limit ≤ 4_294_967_295 }
     ensures pilots { IfOk result (λ answer. IfOk answer (λ pilots.
         ArePilotsOf (part_plan (rules_in settings.now) seed records.now)
-            (bucket_count_of (length records.now) settings.now.shape.c) pilots.items)) }
+        (bucket_count_of (length records.now) settings.now.shape.c) pilots.items)) }
     ensures stuck { IfOk result (λ answer. IfErr answer (λ stuck.
         IsStuckAt (part_plan (rules_in settings.now) seed records.now) stuck)) }
 {

@@ -10,9 +10,7 @@ ghost use Rattle.pth_top.specs.Pilots.{pilots_result, keys_result, outcome_resul
 
 use crate::answer::{Answer, Stop};
 use crate::outcome::{Ended, outcome};
-use crate::text::{
-    built_text, exhausted_text, repeated_key_text, too_long_text, too_many_text,
-};
+use crate::text::{built_text, exhausted_text, repeated_key_text, too_long_text, too_many_text};
 use crate::{LIST_REFUSED, REPEATED_KEY, SEEDS_EXHAUSTED, WORDS_REFUSED};
 use bucket_map::NoMemory;
 use command_words::Options;
@@ -29,7 +27,7 @@ pub fn pilots<F: Files>(
     requires { IsInRange (options_data options.now) }
     ensures done { IfOk result (λ answer. IfSome (F.told files.old) (λ m.
         option_map (pilots_result (options_data options.now)) (map.get m name.now)
-            ≡ Some (done_of answer))) }
+        ≡ Some (done_of answer))) }
     ensures own { IfOk result (λ answer. IsOfCommand answer.status) }
     ensures not_refused { IfOk result (λ answer. answer.status ≢ WORDS_REFUSED) }
 

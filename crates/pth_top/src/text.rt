@@ -83,15 +83,10 @@ fn push_stuck(text: &mut String, seed: u64, part: u32, bucket: u64) -> Result<()
 }
 
 // Appends the line on a seed at which the keys at two places have the same pair of hashes.
-fn push_same_hash(
-    text: &mut String,
-    seed: u64,
-    first: u64,
-    second: u64,
-) -> Result<(), AllocError>
+fn push_same_hash(text: &mut String, seed: u64, first: u64, second: u64) -> Result<(), AllocError>
     ensures { OnOk result
         (string_bytes text.new
-            ≡ string_bytes text.old ++ same_hash_line seed (first + 1) (second + 1)) }
+        ≡ string_bytes text.old ++ same_hash_line seed (first + 1) (second + 1)) }
 {
     push_number(text, "seed ", seed)?;
     push_place(text, ": lines ", first)?;
@@ -152,11 +147,7 @@ pub fn built_text(
 }
 
 /// The refusal of a list for which no seed led to an end.
-pub fn exhausted_text(
-    alloc: Global,
-    seeds: &[u64],
-    causes: &[Cause],
-) -> Result<String, AllocError>
+pub fn exhausted_text(alloc: Global, seeds: &[u64], causes: &[Cause]) -> Result<String, AllocError>
     ensures { IfOk result (λ text.
         string_bytes text ≡ seeds_exhausted ++ cause_lines seeds.now causes.now) }
 {

@@ -13,8 +13,8 @@ ghost use Rattle.pth_top.specs.Words.{refused, done};
 use crate::answer::{Answer, Stop};
 use crate::pilots::pilots;
 use crate::text::refused_word_text;
-use command_words::{Command, WordFault, WordsErr, read_words};
 use crate::{FAILED_OUTPUT, FILE_FAULT, NO_MEMORY, WORDS_REFUSED};
+use command_words::{Command, WordFault, WordsErr, read_words};
 use pth_outside::{Files, Sink, SinkErr};
 use std::alloc::{AllocError, Global};
 
