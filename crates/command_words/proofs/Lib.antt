@@ -1,5 +1,7 @@
 pub mod Numbers
 pub mod Cuts
-pub mod Puts
 pub mod Seeds
 pub mod Encodings
+pub mod SettingWords
+pub mod Ranges
+pub mod Commands

@@ -9,13 +9,15 @@ use Rattle.command_words.specs.Settings.{Given, nothing_given, with_word, option
 abbrev pub fault_at : ℕ → ℕ → WordFault
 fault_at word kind = record { word = word; kind = kind }
 
+-- what comes after a word: the rest from its values on, or the fault that it has
+abbrev pub after_word : ℕ → Result Given ℕ → (Given → Result Given WordFault) → Result Given WordFault
+after_word word (Err kind) rest = Err (fault_at word kind)
+after_word word (Ok next) rest = rest next
+
 -- the values that settings give after others, the first of them in this word; the first faulty word decides
 unfoldable pub given_by : List (List ℕ) → ℕ → Given → Result Given WordFault
 given_by [] word g = Ok g
-given_by (text ∷ texts) word g = elim (with_word text g) [
-  | Ok next ↦ given_by texts (word + 1) next
-  | Err kind ↦ Err (fault_at word kind)
-]
+given_by (text ∷ texts) word g = after_word word (with_word text g) (λ next. given_by texts (word + 1) next)
 
 -- a command with the settings that these values come to
 abbrev pub with_options : (OptionsData → CommandData) → Result Given WordFault → Result CommandData WordFault
