@@ -43,13 +43,22 @@ ordinals_differ keys seed i j d before within =
     let second : get_or (records_of keys seed) j d ≡ record_of keys seed j = get_or-records_of keys seed j d inside in
     λ same. let places : i ≡ j = ap (λ (r : Record). r.ordinal) (sym first) ∙ same ∙ ap (λ (r : Record). r.ordinal) second in absurd (omega arith)
 
+-- twins have records with the same pair
+same_pair_of_twins : (keys : List (List ℕ)) (seed x y : ℕ) → x < length keys → y < length keys → is_twin keys seed y x ≡ true
+    → HaveSamePair (record_at (records_of keys seed) x) (record_at (records_of keys seed) y)
+same_pair_of_twins keys seed x y x_in y_in twins =
+    let d : Record = record { a = 0; b = 0; ordinal = 0 } in
+    let first : record_at (records_of keys seed) x ≡ record_of keys seed x = get_or-records_of keys seed x d x_in in
+    let second : record_at (records_of keys seed) y ≡ record_of keys seed y = get_or-records_of keys seed y d y_in in
+    let parts = and_parts (first_hash (key_at keys x) seed == first_hash (key_at keys y) seed) (second_hash (key_at keys x) seed == second_hash (key_at keys y) seed) twins in (
+      ap (λ (r : Record). r.a) first ∙ eqb-true (first_hash (key_at keys x) seed) (first_hash (key_at keys y) seed) parts.0 ∙ sym (ap (λ (r : Record). r.a) second),
+      ap (λ (r : Record). r.b) first ∙ eqb-true (second_hash (key_at keys x) seed) (second_hash (key_at keys y) seed) parts.1 ∙ sym (ap (λ (r : Record). r.b) second),
+    )
+
 -- two twins make a clash
 clash_of_twins : (keys : List (List ℕ)) (seed x y : ℕ) → x < y → y < length keys → is_twin keys seed y x ≡ true → Clash (records_of keys seed) x y
 clash_of_twins keys seed x y before within twins =
     let d : Record = record { a = 0; b = 0; ordinal = 0 } in
-    let first : record_at (records_of keys seed) x ≡ record_of keys seed x = get_or-records_of keys seed x d (omega arith) in
-    let second : record_at (records_of keys seed) y ≡ record_of keys seed y = get_or-records_of keys seed y d within in
-    let parts = and_parts (first_hash (key_at keys x) seed == first_hash (key_at keys y) seed) (second_hash (key_at keys x) seed == second_hash (key_at keys y) seed) twins in
     let count : length (records_of keys seed) ≡ length keys = length-records_from 0 keys seed in
     record {
       first = x;
@@ -57,12 +66,9 @@ clash_of_twins keys seed x y before within twins =
       apart = omega arith;
       first_inside = omega arith;
       second_inside = omega arith;
-      first_ordinal = ap (λ (r : Record). r.ordinal) first;
-      second_ordinal = ap (λ (r : Record). r.ordinal) second;
-      same_pair = (
-        ap (λ (r : Record). r.a) first ∙ eqb-true (first_hash (key_at keys x) seed) (first_hash (key_at keys y) seed) parts.0 ∙ sym (ap (λ (r : Record). r.a) second),
-        ap (λ (r : Record). r.b) first ∙ eqb-true (second_hash (key_at keys x) seed) (second_hash (key_at keys y) seed) parts.1 ∙ sym (ap (λ (r : Record). r.b) second),
-      );
+      first_ordinal = ap (λ (r : Record). r.ordinal) (get_or-records_of keys seed x d (omega arith));
+      second_ordinal = ap (λ (r : Record). r.ordinal) (get_or-records_of keys seed y d within);
+      same_pair = same_pair_of_twins keys seed x y (omega arith) within twins;
     }
 
 -- a clash of records, at their places
@@ -99,7 +105,7 @@ first_clash_of_least keys seed i j least =
 no_twins : (keys : List (List ℕ)) (seed : ℕ) → HasDistinctPairs (records_of keys seed) → (x y : ℕ) → x < y → y < length keys → is_twin keys seed y x ≡ false
 no_twins keys seed distinct x y before within =
     false_from_ne_true (is_twin keys seed y x)
-    (λ twins. distinct x y (record { a = 0; b = 0; ordinal = 0 }) before (omega (arith, length-records_from 0 keys seed)) (clash_of_twins keys seed x y before within twins).same_pair)
+    (λ twins. distinct x y (record { a = 0; b = 0; ordinal = 0 }) before (omega (arith, length-records_from 0 keys seed)) (same_pair_of_twins keys seed x y (omega arith) within twins))
 
 -- what `least_clash` answers on the records of the keys is the first clash of the keys
 pub clash_of_records : (keys : List (List ℕ)) (seed : ℕ) (answer : Option (ℕ × ℕ)) → (IsNone answer ↔ HasDistinctPairs (records_of keys seed))
@@ -107,3 +113,11 @@ pub clash_of_records : (keys : List (List ℕ)) (seed : ℕ) (answer : Option (�
 clash_of_records keys seed None none least = sym (clash_of-none keys seed (no_twins keys seed (none.0 refl)))
 clash_of_records keys seed (Some c) none least =
     sym (clash_of-found keys seed c.0 c.1 (first_clash_of_least keys seed c.0 c.1 (least (ordinals_differ keys seed))))
+
+-- the same of a list that holds those records
+pub clash_of_seen : (keys : List (List ℕ)) (seed : ℕ) (seen : List Record) (answer : Option (ℕ × ℕ)) → seen ≡ records_of keys seed
+    → (IsNone answer ↔ HasDistinctPairs seen) → (HasDistinctOrdinals seen → IfSome answer (λ c. IsLeastClash seen c.0 c.1)) → answer ≡ clash_of keys seed
+clash_of_seen keys seed seen answer are none least =
+    clash_of_records keys seed answer
+    (subst (λ (rs : List Record). IsNone answer ↔ HasDistinctPairs rs) are none)
+    (subst (λ (rs : List Record). HasDistinctOrdinals rs → IfSome answer (λ c. IsLeastClash rs c.0 c.1)) are least)

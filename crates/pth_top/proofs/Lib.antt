@@ -1,6 +1,12 @@
-mod AllCut
-mod FirstKey
+mod Attempts
+mod Clashes
 mod Numbered
+mod Outcomes
 mod PartPilots
+mod PartResults
+mod Parts
+mod RecordSteps
+mod Refusals
 mod Results
+mod TextSteps
 mod Writes

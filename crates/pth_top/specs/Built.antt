@@ -2,7 +2,7 @@
 use Rattle.std.specs.Prelude.{ℕ, List, map, Result, Ok, Err}
 use Rattle.build_outcome.specs.Attempt.{PartPilots, Attempt, clashed, stuck, ended}
 use Rattle.build_outcome.specs.Outcome.{Outcome, repeated, exhausted, built}
-use Rattle.pth_top.specs.declared.part.Part.{Part}
+use Rattle.pth_top.specs.declared.partition.Part.{Part}
 use Rattle.pth_top.specs.declared.attempt.Tried.{Tried}
 use Rattle.pth_top.specs.declared.attempt.Tried.TheVariants as tried
 use Rattle.pth_top.specs.declared.outcome.Ended.{Ended}

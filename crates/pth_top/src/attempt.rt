@@ -4,7 +4,8 @@ ghost use Rattle.build_outcome.specs.Attempt.{attempt_of, parts_from, by_parts};
 ghost use Rattle.pth_top.specs.Built.{attempt_data};
 ghost use Rattle.pth_top.specs.Part.{rules_in};
 
-use crate::part::{Part, build_part};
+use crate::part::build_part;
+use crate::partition::Part;
 use crate::records::{first_clash, records_of_keys};
 use bucket_map::{MAX_KEYS, NoMemory, Partitions, partitioned};
 use command_words::Settings;
@@ -37,11 +38,13 @@ pub fn attempt(
         attempt_data tried ≡ attempt_of (rules_in settings.now) keys.now seed) }
 {
     let records = records_of_keys(alloc, keys, seed)?;
-    if let Some((first, second)) = first_clash(alloc, &records)? {
-        return Ok(Tried::Clashed { first, second });
+    match first_clash(alloc, &records)? {
+        Some((first, second)) => Ok(Tried::Clashed { first, second }),
+        None => {
+            let partitions = partitioned(alloc, &records, settings.parts)?;
+            build_parts(alloc, &partitions, seed, settings)
+        }
     }
-    let partitions = partitioned(alloc, &records, settings.parts)?;
-    build_parts(alloc, &partitions, seed, settings)
 }
 
 // Builds the partitions one after another.

@@ -5,6 +5,7 @@ mod answer;
 mod attempt;
 mod outcome;
 mod part;
+mod partition;
 mod pilots;
 mod records;
 #[cfg(test)]

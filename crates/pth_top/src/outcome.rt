@@ -1,11 +1,12 @@
 // The outcome of a build over the listed seeds.
-ghost use Rattle.std.specs.Prelude.{◌≡◌, ◌≤◌, length, IfOk};
+ghost use Rattle.std.specs.Prelude.{◌≡◌, ◌<◌, ◌≤◌, length, bytes_eq, IfOk};
+ghost use Rattle.build_outcome.specs.Clash.{key_at};
 ghost use Rattle.build_outcome.specs.Outcome.{outcome_of};
 ghost use Rattle.pth_top.specs.Built.{outcome_data};
 ghost use Rattle.pth_top.specs.Part.{rules_in};
 
 use crate::attempt::{Tried, attempt};
-use crate::part::Part;
+use crate::partition::Part;
 use bucket_map::{MAX_KEYS, NoMemory};
 use build_outcome::Cause;
 use command_words::Settings;
@@ -38,7 +39,7 @@ pub fn outcome(alloc: Global, keys: &KeyList, settings: &Settings) -> Result<End
         match attempt(alloc, keys, seed, settings)? {
             Tried::Complete { parts } => return Ok(Ended::Built { seed, parts }),
             Tried::Clashed { first, second } => {
-                if keys.key(first) == keys.key(second) {
+                if are_equal(keys, first, second) {
                     return Ok(Ended::Repeated { first, second });
                 }
                 causes
@@ -53,4 +54,13 @@ pub fn outcome(alloc: Global, keys: &KeyList, settings: &Settings) -> Result<End
         }
     }
     Ok(Ended::Exhausted { causes })
+}
+
+// Whether the keys at two places are equal.
+fn are_equal(keys: &KeyList, first: u64, second: u64) -> bool
+    requires first_inside { first < length keys.now }
+    requires second_inside { second < length keys.now }
+    ensures { result ≡ bytes_eq (key_at keys.now first) (key_at keys.now second) }
+{
+    keys.key(first) == keys.key(second)
 }

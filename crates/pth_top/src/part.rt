@@ -8,18 +8,11 @@ ghost use Rattle.build_outcome.specs.Attempt.{part_plan, part_of};
 ghost use Rattle.pth_top.specs.Built.{part_answer};
 ghost use Rattle.pth_top.specs.Part.{rules_in, ArePilotsOf};
 
+use crate::partition::Part;
 use bucket_map::{Buckets, MAX_KEYS, NoMemory, Record, bucket_count, ordered_buckets, table_size};
 use command_words::Settings;
 use pilot_search::{Plan, Stuck, place};
 use std::alloc::{AllocError, Global};
-
-/// A partition that was built: how many keys it has, and the pilots of its buckets by number.
-#[derive(Drop)]
-pub struct Part {
-    pub keys: u64,
-    pub pilots: Vec<u64>,
-    ghost few: { keys ≤ 67_108_864 },
-}
 
 /// Builds a partition, or answers the bucket that has no pilot.
 pub fn build_part(

@@ -86,8 +86,10 @@ fn no_keys_answer(alloc: Global) -> Result<Answer, AllocError>
 fn keys_answer(alloc: Global, keys: &KeyList, options: &Options) -> Result<Answer, NoMemory>
     requires in_range { IsInRange (options_data options.now) }
     requires few { length keys.now ≤ options.now.most }
-    ensures { IfOk result (λ answer.
+    ensures done { IfOk result (λ answer.
         done_of answer ≡ keys_result (options_data options.now) keys.now) }
+    ensures own { IfOk result (λ answer. IsOfCommand answer.status) }
+    ensures not_refused { IfOk result (λ answer. answer.status ≢ WORDS_REFUSED) }
 {
     let n = keys.len();
     if n == 0 {
@@ -104,8 +106,10 @@ fn outcome_answer(
     ended: &Ended,
     options: &Options,
 ) -> Result<Answer, AllocError>
-    ensures { IfOk result (λ answer.
+    ensures done { IfOk result (λ answer.
         done_of answer ≡ outcome_result (options_data options.now) n (outcome_data ended.now)) }
+    ensures own { IfOk result (λ answer. IsOfCommand answer.status) }
+    ensures not_refused { IfOk result (λ answer. answer.status ≢ WORDS_REFUSED) }
 {
     match ended {
         Ended::Built { seed, parts } => {

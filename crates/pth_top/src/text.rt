@@ -4,7 +4,7 @@ ghost use Rattle.pth_top.specs.Built.{part_data};
 ghost use Rattle.pth_top.specs.Pilots.{parts_lines};
 ghost use Rattle.pth_top.specs.Texts.{cause_line, cause_lines, kind_name, part_lines, refused_word, repeated_key, same_hash_line, seed_lines, seeds_exhausted, spaced, stuck_line, too_long, too_many};
 
-use crate::part::Part;
+use crate::partition::Part;
 use bucket_map::{Shape, table_size};
 use build_outcome::Cause;
 use command_words::{WordFault, kinds};
@@ -169,6 +169,7 @@ pub fn refused_word_text(alloc: Global, fault: WordFault) -> Result<String, Allo
 }
 
 // The name of a kind of fault in a word.
+#[tactic(auto, unfolding(crate::specs::Texts::kind_name))]
 fn kind_text(kind: u8) -> &'static str
     ensures { result.now ≡ kind_name kind }
 {
