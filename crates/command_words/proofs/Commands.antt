@@ -1,5 +1,5 @@
 -- Which command the first word names.
-use Rattle.std.proofs.Common.{◌≡◌, ℕ, List, [], ◌∷◌, length, cond, true, false, Result, Ok, Err, refl, sym, ap, ◌∙◌, arith}
+use Rattle.std.proofs.Common.{◌≡◌, List, [], ◌∷◌, length, cond, true, false, Err, refl, ap, ◌∙◌, arith}
 use Rattle.std.specs.Prelude.{String, string_bytes, codes, bytes_eq}
 use Rattle.std.specs.declared.alloc.Global.{Global}
 use Rattle.std.proofs.lemmas.Slice.Eq.{bytes_eq-Decides}
@@ -26,6 +26,6 @@ unfolding command_of
 command_of-unknown words command rest split other =
     ap (λ ws. command_of (words_of ws)) split
     ∙ elim (bytes_eq (string_bytes command) (codes "pilots")) as (λ b. bytes_eq (string_bytes command) (codes "pilots") ≡ b → cond b (pilots_of (words_of rest)) (Err (fault_at 0 COMMAND)) ≡ Err (fault_at 0 COMMAND)) [
-          true ↦ λ same. absurd (other ((bytes_eq-Decides (string_bytes command) (codes "pilots")).0 same))
-        | false ↦ λ same. refl
-        ] refl
+      | true ↦ λ same. absurd (other ((bytes_eq-Decides (string_bytes command) (codes "pilots")).0 same))
+      | false ↦ λ same. refl
+    ] refl

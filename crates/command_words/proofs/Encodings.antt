@@ -1,5 +1,5 @@
 -- The encodings that texts name.
-use Rattle.std.proofs.Common.{◌≡◌, ℕ, List, Option, Some, None, Result, Ok, Err, refl, sym, ap, ◌∙◌}
+use Rattle.std.proofs.Common.{◌≡◌, ℕ, List, Option, Some, None, Ok, Err, sym, ap, ◌∙◌}
 use Rattle.std.specs.Prelude.{option_map, option_and_then, ok_or}
 use Rattle.command_words.specs.declared.kinds.TheConstants.{RANGE}
 use Rattle.command_words.specs.declared.values.TheConstants.{DASH}

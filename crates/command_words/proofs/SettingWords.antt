@@ -1,5 +1,5 @@
 -- One word of settings after another.
-use Rattle.std.proofs.Common.{◌≡◌, ℕ, ◌+◌, ◌<◌, ◌≤◌, List, [], ◌∷◌, length, get_or, drop, Option, Some, None, Result, Ok, Err, refl, sym, ap, subst, ◌∙◌, arith}
+use Rattle.std.proofs.Common.{◌≡◌, ℕ, ◌+◌, ◌<◌, ◌≤◌, List, ◌∷◌, length, get_or, drop, Some, None, Result, Ok, Err, sym, ap, subst, ◌∙◌, arith}
 use Rattle.std.specs.Prelude.{String, string_bytes}
 use Rattle.std.specs.declared.alloc.Global.{Global}
 use Rattle.std.proofs.lemmas.List.{at_drop_more, at_drop_all}
@@ -50,8 +50,8 @@ given_by-next words k first word g next all inside at good so_far =
     let place : first + (k + 1) ≡ first + k + 1 = omega arith in
     ap (λ p. given_by (words_of (drop (k + 1) words)) p next) place
     ∙ sym (at_drop_more (λ ws. given_by (words_of ws) (first + k) g) words k word inside
-        ∙ ap (λ w. given_by (words_of (w ∷ drop (k + 1) words)) (first + k) g) (sym at)
-        ∙ given_by-good (string_bytes word) (words_of (drop (k + 1) words)) (first + k) g next good)
+    ∙ ap (λ w. given_by (words_of (w ∷ drop (k + 1) words)) (first + k) g) (sym at)
+    ∙ given_by-good (string_bytes word) (words_of (drop (k + 1) words)) (first + k) g next good)
     ∙ so_far
 
 -- the loop ends at a faulty word
