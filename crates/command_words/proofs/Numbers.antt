@@ -67,7 +67,8 @@ number_of-not_plain bs not_plain =
     number_of-none bs (λ n small spelled. not_plain (subst IsPlain (sym spelled) (IsPlain-decimal n small)))
 
 -- what `parse` gives of a plain text is the number that it spells
-pub number_of-plain : {E : Type 0} (bs : List ℕ) (r : Result ℕ E) → ParsesUnsigned 64 10 bs r → IsPlain bs → result_ok r ≡ number_of bs
+pub number_of-plain : {E : Type 0} (bs : List ℕ) (r : Result ℕ E) → ParsesUnsigned 64 10 bs r → IsPlain bs →
+    result_ok r ≡ number_of bs
 number_of-plain {E} bs r parsed plain =
     let no_sign : get_or bs 0 0 ≢ 43 = λ sign. let low = plain.digit_low in omega arith in
     elim r as (λ r. OkIff r (AllDigits 10 bs × (0 < length bs) × (digits_value 10 bs < 2 ^ 64)) (digits_value 10 bs) → result_ok r ≡ number_of bs) [
@@ -80,16 +81,19 @@ number_of-plain {E} bs r parsed plain =
     ] (parse_plain own 64 bs r parsed no_sign)
 
 -- a number in its range
-pub number_in-good : (low high n : ℕ) (bs : List ℕ) → Some n ≡ number_of bs → low ≤ n → n ≤ high → number_in low high bs ≡ Ok n
+pub number_in-good : (low high n : ℕ) (bs : List ℕ) → Some n ≡ number_of bs → low ≤ n → n ≤ high →
+    number_in low high bs ≡ Ok n
 unfolding number_in
 number_in-good low high n bs is above below = rw (sym is) (grind (arith, nat_tests))
 
 -- a number out of its range
-pub number_in-low : (low high n : ℕ) (bs : List ℕ) → Some n ≡ number_of bs → n < low → number_in low high bs ≡ Err RANGE
+pub number_in-low : (low high n : ℕ) (bs : List ℕ) → Some n ≡ number_of bs → n < low →
+    number_in low high bs ≡ Err RANGE
 unfolding number_in
 number_in-low low high n bs is below = rw (sym is) (grind (arith, nat_tests))
 
-pub number_in-high : (low high n : ℕ) (bs : List ℕ) → Some n ≡ number_of bs → high < n → number_in low high bs ≡ Err RANGE
+pub number_in-high : (low high n : ℕ) (bs : List ℕ) → Some n ≡ number_of bs → high < n →
+    number_in low high bs ≡ Err RANGE
 unfolding number_in
 number_in-high low high n bs is above = rw (sym is) (grind (arith, nat_tests))
 

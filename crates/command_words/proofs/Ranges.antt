@@ -17,7 +17,8 @@ use Rattle.command_words.specs.Values.{number_of, number_in, between, numbers_of
 use Rattle.command_words.specs.Words.{given_by, after_word}
 
 -- a value that is put
-put-ok : {A : Type 0} (slot : Option A) (value : Result A ℕ) (with_it : Option A → Given) (next : Given) → put slot value with_it ≡ Ok next → (v : A) × (value ≡ Ok v) × (with_it (Some v) ≡ next)
+put-ok : {A : Type 0} (slot : Option A) (value : Result A ℕ) (with_it : Option A → Given) (next : Given) →
+    put slot value with_it ≡ Ok next → (v : A) × (value ≡ Ok v) × (with_it (Some v) ≡ next)
 put-ok (Some x) value with_it next is = cc
 put-ok None (Err kind) with_it next is = cc
 put-ok None (Ok v) with_it next is = (v, refl, cc)
@@ -53,7 +54,8 @@ length-numbers_of (text ∷ texts) ns is =
       | None ↦ λ e. cc
     ] is
 
-few_seeds-ok : (r : Option (List ℕ)) (seeds : List ℕ) → few_seeds r ≡ Ok seeds → (r ≡ Some seeds) × (length seeds ≤ MOST_SEEDS)
+few_seeds-ok : (r : Option (List ℕ)) (seeds : List ℕ) → few_seeds r ≡ Ok seeds →
+    (r ≡ Some seeds) × (length seeds ≤ MOST_SEEDS)
 few_seeds-ok None seeds is = cc
 few_seeds-ok (Some ns) seeds is =
     elim (nat_le (length ns) MOST_SEEDS) as (λ b. nat_le (length ns) MOST_SEEDS ≡ b → cond b (Ok ns) (Err RANGE) ≡ Ok seeds → (Some ns ≡ Some seeds) × (length seeds ≤ MOST_SEEDS)) [
@@ -75,12 +77,14 @@ workers_of-how_of Turns workers = refl
 workers_of-how_of Rounds workers = refl
 
 -- the number of workers stays in its range in another way
-IsInRange-workers : (way other : search.Search) (workers : ℕ) (P : ℕ → Type 0) → P (workers_of (how_of way workers)) → P (workers_of (how_of other workers))
+IsInRange-workers : (way other : search.Search) (workers : ℕ) (P : ℕ → Type 0) →
+    P (workers_of (how_of way workers)) → P (workers_of (how_of other workers))
 IsInRange-workers way other workers P h =
     subst P (workers_of-how_of way workers ∙ sym (workers_of-how_of other workers)) h
 
 -- one more value stays in range
-with_value-in_range : (s : Setting) (text : List ℕ) (g next : Given) → IsInRange (options_of g) → with_value s text g ≡ Ok next → IsInRange (options_of next)
+with_value-in_range : (s : Setting) (text : List ℕ) (g next : Given) → IsInRange (options_of g) →
+    with_value s text g ≡ Ok next → IsInRange (options_of next)
 with_value-in_range setting.Seeds text g next h is =
     let p = put-ok g.seeds (seeds_in text) _ next is in
     let r = seeds_in-ok text p.0 p.1 in
@@ -126,20 +130,24 @@ with_value-in_range setting.Limit text g next h is =
     let r = number_in-ok 1 67_108_864 p.0 text p.1 in
     subst (λ g. IsInRange (options_of g)) p.2 (assumption (h, r))
 
-with_named-in_range : (s : Option Setting) (text : List ℕ) (g next : Given) → IsInRange (options_of g) → with_named s text g ≡ Ok next → IsInRange (options_of next)
+with_named-in_range : (s : Option Setting) (text : List ℕ) (g next : Given) → IsInRange (options_of g) →
+    with_named s text g ≡ Ok next → IsInRange (options_of next)
 with_named-in_range None text g next h is = cc
 with_named-in_range (Some s) text g next h is = with_value-in_range s text g next h is
 
-with_parts-in_range : (parts : Option (List ℕ × List ℕ)) (g next : Given) → IsInRange (options_of g) → with_parts parts g ≡ Ok next → IsInRange (options_of next)
+with_parts-in_range : (parts : Option (List ℕ × List ℕ)) (g next : Given) → IsInRange (options_of g) →
+    with_parts parts g ≡ Ok next → IsInRange (options_of next)
 with_parts-in_range None g next h is = cc
 with_parts-in_range (Some parts) g next h is = with_named-in_range (setting_of parts.0) parts.1 g next h is
 
-with_word-in_range : (word : List ℕ) (g next : Given) → IsInRange (options_of g) → with_word word g ≡ Ok next → IsInRange (options_of next)
+with_word-in_range : (word : List ℕ) (g next : Given) → IsInRange (options_of g) → with_word word g ≡ Ok next →
+    IsInRange (options_of next)
 unfolding with_word
 with_word-in_range word g next h is = with_parts-in_range (cut_at EQUALS word) g next h is
 
 -- words keep the settings in range
-given_by-in_range : (words : List (List ℕ)) (first : ℕ) (g last : Given) → IsInRange (options_of g) → given_by words first g ≡ Ok last → IsInRange (options_of last)
+given_by-in_range : (words : List (List ℕ)) (first : ℕ) (g last : Given) → IsInRange (options_of g) →
+    given_by words first g ≡ Ok last → IsInRange (options_of last)
 unfolding given_by
 given_by-in_range [] first g last h is =
     let same : g ≡ last = cc in subst (λ g. IsInRange (options_of g)) same h
@@ -170,5 +178,6 @@ defaults_in_range = record {
 }
 
 -- the settings that words give are in range
-pub settings_in_range : (words : List (List ℕ)) (first : ℕ) (last : Given) → given_by words first nothing_given ≡ Ok last → IsInRange (options_of last)
+pub settings_in_range : (words : List (List ℕ)) (first : ℕ) (last : Given) →
+    given_by words first nothing_given ≡ Ok last → IsInRange (options_of last)
 settings_in_range words first last is = given_by-in_range words first nothing_given last defaults_in_range is
