@@ -1,13 +1,12 @@
 -- What words give is in its range.
-use Rattle.std.proofs.Common.{◌≡◌, ℕ, suc, ◌+◌, ◌<◌, ◌≤◌, List, [], ◌∷◌, length, Bool, true, false, cond, ◌&&◌, Option, Some, None, Result, Ok, Err, refl, sym, ap, subst, ◌∙◌, arith}
-use Rattle.std.specs.Prelude.{◌==◌, nat_le, nat_lt, option_map, option_and_then, unwrap_or}
+use Rattle.std.proofs.Common.{◌≡◌, ℕ, suc, ◌+◌, ◌≤◌, List, [], ◌∷◌, length, true, false, cond, ◌&&◌, Option, Some, None, Result, Ok, Err, refl, sym, ap, subst, ◌∙◌, arith}
+use Rattle.std.specs.Prelude.{◌==◌, nat_le, option_map, option_and_then, unwrap_or}
 use Rattle.std.specs.List.{slice_split}
 use Rattle.std.proofs.lemmas.Bool.Decides.{nat_tests}
 use Rattle.std.proofs.lemmas.List.Splits.{length-slice_split}
-use Rattle.command_words.specs.declared.kinds.TheConstants.{NUMBER, RANGE, REPEATED}
+use Rattle.command_words.specs.declared.kinds.TheConstants.{RANGE}
 use Rattle.command_words.specs.declared.number.TheConstants.{COMMA, MOST_SEEDS}
 use Rattle.command_words.specs.declared.chosen.TheConstants.{EQUALS}
-use Rattle.command_words.specs.declared.faults.WordFault.{WordFault}
 use Rattle.command_words.specs.declared.setting.Setting.{Setting}
 use Rattle.command_words.specs.declared.setting.Setting.TheVariants as setting
 use Rattle.command_words.specs.declared.values.Search as search
@@ -18,7 +17,8 @@ use Rattle.command_words.specs.Values.{number_of, number_in, between, numbers_of
 use Rattle.command_words.specs.Words.{given_by, after_word}
 
 -- a value that is put
-put-ok : {A : Type 0} (slot : Option A) (value : Result A ℕ) (with_it : Option A → Given) (next : Given) → put slot value with_it ≡ Ok next → (v : A) × (value ≡ Ok v) × (with_it (Some v) ≡ next)
+put-ok : {A : Type 0} (slot : Option A) (value : Result A ℕ) (with_it : Option A → Given) (next : Given) →
+    put slot value with_it ≡ Ok next → (v : A) × (value ≡ Ok v) × (with_it (Some v) ≡ next)
 put-ok (Some x) value with_it next is = cc
 put-ok None (Err kind) with_it next is = cc
 put-ok None (Ok v) with_it next is = (v, refl, cc)
@@ -28,13 +28,13 @@ between-ok : (low high n : ℕ) (r : Option ℕ) → between low high r ≡ Ok n
 between-ok low high n None is = cc
 between-ok low high n (Some m) is =
     elim (nat_le low m) as (λ b. nat_le low m ≡ b → cond (b && nat_le m high) (Ok m) (Err RANGE) ≡ Ok n → (low ≤ n) × (n ≤ high)) [
-        true ↦ λ above. elim (nat_le m high) as (λ b. nat_le m high ≡ b → cond b (Ok m) (Err RANGE) ≡ Ok n → (low ≤ n) × (n ≤ high)) [
-            true ↦ λ below e. let same : m ≡ n = cc in
-                (grind (arith, nat_tests), grind (arith, nat_tests))
-          | false ↦ λ below e. cc
-          ] refl
+      | true ↦ λ above. elim (nat_le m high) as (λ b. nat_le m high ≡ b → cond b (Ok m) (Err RANGE) ≡ Ok n → (low ≤ n) × (n ≤ high)) [
+        | true ↦ λ below e. let same : m ≡ n = cc in
+            (grind (arith, nat_tests), grind (arith, nat_tests))
+        | false ↦ λ below e. cc
+      ] refl
       | false ↦ λ above e. cc
-      ] refl is
+    ] refl is
 
 number_in-ok : (low high n : ℕ) (text : List ℕ) → number_in low high text ≡ Ok n → (low ≤ n) × (n ≤ high)
 unfolding number_in
@@ -46,21 +46,22 @@ unfolding numbers_of
 length-numbers_of [] ns is = let same : ns ≡ [] = cc in ap length same
 length-numbers_of (text ∷ texts) ns is =
     elim (number_of text) as (λ r. option_and_then (λ n. option_map (λ ns. n ∷ ns) (numbers_of texts)) r ≡ Some ns → length ns ≡ suc (length texts)) [
-        Some n ↦ elim (numbers_of texts) as (λ r. numbers_of texts ≡ r → option_map (λ ns. n ∷ ns) r ≡ Some ns → length ns ≡ suc (length texts)) [
-            Some ms ↦ λ rest e. let same : n ∷ ms ≡ ns = cc in
-                ap length (sym same) ∙ ap suc (length-numbers_of texts ms rest)
-          | None ↦ λ rest e. cc
-          ] refl
+      | Some n ↦ elim (numbers_of texts) as (λ r. numbers_of texts ≡ r → option_map (λ ns. n ∷ ns) r ≡ Some ns → length ns ≡ suc (length texts)) [
+        | Some ms ↦ λ rest e. let same : n ∷ ms ≡ ns = cc in
+            ap length (sym same) ∙ ap suc (length-numbers_of texts ms rest)
+        | None ↦ λ rest e. cc
+      ] refl
       | None ↦ λ e. cc
-      ] is
+    ] is
 
-few_seeds-ok : (r : Option (List ℕ)) (seeds : List ℕ) → few_seeds r ≡ Ok seeds → (r ≡ Some seeds) × (length seeds ≤ MOST_SEEDS)
+few_seeds-ok : (r : Option (List ℕ)) (seeds : List ℕ) → few_seeds r ≡ Ok seeds →
+    (r ≡ Some seeds) × (length seeds ≤ MOST_SEEDS)
 few_seeds-ok None seeds is = cc
 few_seeds-ok (Some ns) seeds is =
     elim (nat_le (length ns) MOST_SEEDS) as (λ b. nat_le (length ns) MOST_SEEDS ≡ b → cond b (Ok ns) (Err RANGE) ≡ Ok seeds → (Some ns ≡ Some seeds) × (length seeds ≤ MOST_SEEDS)) [
-        true ↦ λ few e. let same : ns ≡ seeds = cc in (ap Some same, subst (λ s. length s ≤ MOST_SEEDS) same (grind (arith, nat_tests)))
+      | true ↦ λ few e. let same : ns ≡ seeds = cc in (ap Some same, subst (λ s. length s ≤ MOST_SEEDS) same (grind (arith, nat_tests)))
       | false ↦ λ few e. cc
-      ] refl is
+    ] refl is
 
 seeds_in-ok : (text seeds : List ℕ) → seeds_in text ≡ Ok seeds → (1 ≤ length seeds) × (length seeds ≤ 16)
 unfolding seeds_in
@@ -76,12 +77,14 @@ workers_of-how_of Turns workers = refl
 workers_of-how_of Rounds workers = refl
 
 -- the number of workers stays in its range in another way
-IsInRange-workers : (way other : search.Search) (workers : ℕ) (P : ℕ → Type 0) → P (workers_of (how_of way workers)) → P (workers_of (how_of other workers))
+IsInRange-workers : (way other : search.Search) (workers : ℕ) (P : ℕ → Type 0) →
+    P (workers_of (how_of way workers)) → P (workers_of (how_of other workers))
 IsInRange-workers way other workers P h =
     subst P (workers_of-how_of way workers ∙ sym (workers_of-how_of other workers)) h
 
 -- one more value stays in range
-with_value-in_range : (s : Setting) (text : List ℕ) (g next : Given) → IsInRange (options_of g) → with_value s text g ≡ Ok next → IsInRange (options_of next)
+with_value-in_range : (s : Setting) (text : List ℕ) (g next : Given) → IsInRange (options_of g) →
+    with_value s text g ≡ Ok next → IsInRange (options_of next)
 with_value-in_range setting.Seeds text g next h is =
     let p = put-ok g.seeds (seeds_in text) _ next is in
     let r = seeds_in-ok text p.0 p.1 in
@@ -127,39 +130,54 @@ with_value-in_range setting.Limit text g next h is =
     let r = number_in-ok 1 67_108_864 p.0 text p.1 in
     subst (λ g. IsInRange (options_of g)) p.2 (assumption (h, r))
 
-with_named-in_range : (s : Option Setting) (text : List ℕ) (g next : Given) → IsInRange (options_of g) → with_named s text g ≡ Ok next → IsInRange (options_of next)
+with_named-in_range : (s : Option Setting) (text : List ℕ) (g next : Given) → IsInRange (options_of g) →
+    with_named s text g ≡ Ok next → IsInRange (options_of next)
 with_named-in_range None text g next h is = cc
 with_named-in_range (Some s) text g next h is = with_value-in_range s text g next h is
 
-with_parts-in_range : (parts : Option (List ℕ × List ℕ)) (g next : Given) → IsInRange (options_of g) → with_parts parts g ≡ Ok next → IsInRange (options_of next)
+with_parts-in_range : (parts : Option (List ℕ × List ℕ)) (g next : Given) → IsInRange (options_of g) →
+    with_parts parts g ≡ Ok next → IsInRange (options_of next)
 with_parts-in_range None g next h is = cc
 with_parts-in_range (Some parts) g next h is = with_named-in_range (setting_of parts.0) parts.1 g next h is
 
-with_word-in_range : (word : List ℕ) (g next : Given) → IsInRange (options_of g) → with_word word g ≡ Ok next → IsInRange (options_of next)
+with_word-in_range : (word : List ℕ) (g next : Given) → IsInRange (options_of g) → with_word word g ≡ Ok next →
+    IsInRange (options_of next)
 unfolding with_word
 with_word-in_range word g next h is = with_parts-in_range (cut_at EQUALS word) g next h is
 
 -- words keep the settings in range
-given_by-in_range : (words : List (List ℕ)) (first : ℕ) (g last : Given) → IsInRange (options_of g) → given_by words first g ≡ Ok last → IsInRange (options_of last)
+given_by-in_range : (words : List (List ℕ)) (first : ℕ) (g last : Given) → IsInRange (options_of g) →
+    given_by words first g ≡ Ok last → IsInRange (options_of last)
 unfolding given_by
 given_by-in_range [] first g last h is =
     let same : g ≡ last = cc in subst (λ g. IsInRange (options_of g)) same h
 given_by-in_range (word ∷ words) first g last h is =
     elim (with_word word g) as (λ r. with_word word g ≡ r → after_word first r (λ next. given_by words (first + 1) next) ≡ Ok last → IsInRange (options_of last)) [
-        Ok next ↦ λ good e. given_by-in_range words (first + 1) next last (with_word-in_range word g next h good) e
+      | Ok next ↦ λ good e. given_by-in_range words (first + 1) next last (with_word-in_range word g next h good) e
       | Err kind ↦ λ bad e. cc
-      ] refl is
+    ] refl is
 
 -- the defaults are in range
 defaults_in_range : IsInRange (options_of nothing_given)
 defaults_in_range = record {
-    some_seed = omega arith; few_seeds = omega arith;
-    alpha_low = omega arith; alpha_high = omega arith; c_low = omega arith; c_high = omega arith;
-    some_part = omega arith; few_parts = omega arith; some_pilot = omega arith; few_pilots = omega arith;
-    some_worker = omega arith; few_workers = omega arith; few_blocks = omega arith;
-    some_key = omega arith; few_keys = omega arith
-  }
+  some_seed = omega arith;
+  few_seeds = omega arith;
+  alpha_low = omega arith;
+  alpha_high = omega arith;
+  c_low = omega arith;
+  c_high = omega arith;
+  some_part = omega arith;
+  few_parts = omega arith;
+  some_pilot = omega arith;
+  few_pilots = omega arith;
+  some_worker = omega arith;
+  few_workers = omega arith;
+  few_blocks = omega arith;
+  some_key = omega arith;
+  few_keys = omega arith;
+}
 
 -- the settings that words give are in range
-pub settings_in_range : (words : List (List ℕ)) (first : ℕ) (last : Given) → given_by words first nothing_given ≡ Ok last → IsInRange (options_of last)
+pub settings_in_range : (words : List (List ℕ)) (first : ℕ) (last : Given) →
+    given_by words first nothing_given ≡ Ok last → IsInRange (options_of last)
 settings_in_range words first last is = given_by-in_range words first nothing_given last defaults_in_range is

@@ -1,5 +1,5 @@
 -- What a command comes to, as plain data.
-use Rattle.std.specs.Prelude.{◌≡◌, ℕ, ◌<◌, ◌≤◌, List, length, map, string_bytes, String}
+use Rattle.std.specs.Prelude.{ℕ, ◌≤◌, List, length, map, string_bytes, String}
 use Rattle.std.specs.declared.alloc.Global.{Global}
 use Rattle.command_words.specs.declared.options.How.{How}
 use Rattle.command_words.specs.declared.options.How.TheVariants.{Alone, Rounds, Turns}

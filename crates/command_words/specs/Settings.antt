@@ -1,6 +1,5 @@
 -- The settings: their names, their values and their defaults.
-use Rattle.std.specs.Prelude.{ℕ, ◌+◌, List, [], ◌∷◌, codes, bytes_eq, if◌then◌else◌, Option, Some, None, Result, Ok, Err, unwrap_or}
-use Rattle.command_words.specs.declared.faults.WordFault.{WordFault}
+use Rattle.std.specs.Prelude.{ℕ, List, [], ◌∷◌, codes, bytes_eq, if◌then◌else◌, Option, Some, None, Result, Ok, Err, unwrap_or}
 use Rattle.command_words.specs.declared.kinds.TheConstants.{NAME, REPEATED}
 use Rattle.command_words.specs.declared.chosen.TheConstants.{EQUALS}
 use Rattle.command_words.specs.declared.options.How.{How}

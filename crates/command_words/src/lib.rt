@@ -3,6 +3,7 @@
 
 mod chosen;
 mod faults;
+/// The kinds of faults, by their numbers.
 pub mod kinds;
 mod number;
 mod options;

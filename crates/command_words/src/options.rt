@@ -9,7 +9,8 @@ pub enum How {
     Turns(u32),
 }
 
-/// How a list of pilots is kept: all with one width, in parts with a width each, by a dictionary, or as Elias-Fano sums.
+/// How a list of pilots is kept: all with one width, in parts with a width each, by a dictionary, or as Elias-Fano
+/// sums.
 #[derive(Clone, Copy, Debug, PartialEq, Eq)]
 pub enum Code {
     Compact,

@@ -111,3 +111,28 @@ fn settings_that_no_word_gives_are_as_by_default(rt: HostRuntime) -> Result<(), 
     assert_eq!(&rt; (options.blocks, options.most), (0, 67_108_864));
     Ok(())
 }
+
+#[test]
+fn settings_are_as_words_give_them(rt: HostRuntime) -> Result<(), Fail> {
+    let line = "pilots K limit=1 blocks=65536 pilots=4294967295 enc=pc-ef search=rounds workers=64 \
+        parts=4096 c=1500 alpha=50 seeds=0,18446744073709551615";
+    let Ok(Command::Pilots { options, .. }) = read_line(rt.alloc(), line)? else {
+        return Err(Fail::from("a good line is refused"));
+    };
+    assert_eq!(&rt; options.settings.seeds.as_slice(), [0, u64::MAX].as_slice());
+    assert_eq!(&rt;
+        (options.settings.shape.alpha, options.settings.shape.c),
+        (50, 1500)
+    );
+    assert_eq!(&rt;
+        (options.settings.parts, options.settings.limit),
+        (4096, 4_294_967_295)
+    );
+    assert_eq!(&rt; options.settings.how, How::Rounds(64));
+    assert_eq!(&rt;
+        (options.enc.front, options.enc.back),
+        (Code::Parted, Some(Code::EliasFano))
+    );
+    assert_eq!(&rt; (options.blocks, options.most), (65536, 1));
+    Ok(())
+}

@@ -1,5 +1,5 @@
-use Rattle.std.proofs.Common.{◌≡◌, None, refl, sym, subst, ◌∙◌}
-use Rattle.command_words.specs.Values.{IsPlain, number_of}
+use Rattle.std.proofs.Common.{None, refl, sym, subst, ◌∙◌}
+use Rattle.command_words.specs.Values.{IsPlain}
 use Rattle.command_words.proofs.Numbers.{number_of-plain, number_of-not_plain, spelled_by, spells}
 use Rattle.command_words.proofs.number.number.Goals as goal
 

@@ -8,9 +8,9 @@ returns-in_default c = number_in-none c.args.low c.args.high c.args.text.now c.i
 pub returns-then-n-low : goal.returns-then-n-low
 returns-then-n-low c =
     elim c.then-n-low.branch [
-        then-n-low-via-then-n-low w ↦ number_in-low c.args.low c.args.high c.in-Some.n c.args.text.now c.in-Some.ensures.value w.if-n-low.true
+      | then-n-low-via-then-n-low w ↦ number_in-low c.args.low c.args.high c.in-Some.n c.args.text.now c.in-Some.ensures.value w.if-n-low.true
       | then-n-low-via-else-n-low+then-high-n w ↦ number_in-high c.args.low c.args.high c.in-Some.n c.args.text.now c.in-Some.ensures.value w.if-high-n.true
-      ]
+    ]
 
 pub returns : goal.returns
 returns c = number_in-good c.args.low c.args.high c.in-Some.n c.args.text.now c.in-Some.ensures.value c.if-n-low.false c.if-high-n.false

@@ -1,9 +1,8 @@
-use Rattle.std.proofs.Common.{◌≡◌, ◌+◌, ◌∷◌, [], ◌++◌, length, drop, lit<, sym, subst, ap, ◌∙◌, arith}
+use Rattle.std.proofs.Common.{length, lit<, arith}
 use Rattle.std.proofs.lemmas.List.{length_push}
 use Rattle.std.proofs.lemmas.Iterator.Consumers.{YieldsList-turn, YieldsList-end}
 use Rattle.std.proofs.lemmas.Iterator.Splits.{YieldsList-from_str_split}
-use Rattle.command_words.specs.Values.{numbers_of}
-use Rattle.command_words.proofs.Seeds.{after, pieces_of, one_more_seed, no_seed, few, many}
+use Rattle.command_words.proofs.Seeds.{pieces_of, one_more_seed, no_seed, few, many}
 use Rattle.command_words.proofs.number.read_seeds.Goals as goal
 
 pub returns-in_default : goal.returns-in_default

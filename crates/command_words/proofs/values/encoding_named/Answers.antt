@@ -1,4 +1,4 @@
-use Rattle.std.proofs.Common.{◌≡◌, Some, None, lit<, refl, sym, ◌∙◌}
+use Rattle.std.proofs.Common.{Some, None, lit<, refl, ◌∙◌}
 use Rattle.command_words.specs.Values.{code_of}
 use Rattle.command_words.proofs.Cuts.{no_cut, one_cut}
 use Rattle.command_words.proofs.Encodings.{encoding_of-whole, encoding_of-parts}

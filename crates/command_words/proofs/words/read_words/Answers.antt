@@ -9,7 +9,7 @@ use Rattle.command_words.proofs.words.read_words.Goals as goal
 pub returns-in_default-clause-bad : goal.returns-in_default-clause-bad
 returns-in_default-clause-bad c =
     subst (IfBad (λ fault. command_of (words_of c.args.words.now) ≡ Err fault)) (sym c.bad.ensures)
-        (command_of-nothing c.args.words.now c.in_default.ensures.cases)
+    (command_of-nothing c.args.words.now c.in_default.ensures.cases)
 
 pub returns-in-pilots-clause-ok : goal.returns-in-pilots-clause-ok
 returns-in-pilots-clause-ok c =
@@ -24,5 +24,5 @@ returns-in-pilots-clause-bad c =
 pub returns-in_default-as_str-clause-bad : goal.returns-in_default-as_str-clause-bad
 returns-in_default-as_str-clause-bad c =
     let unknown = command_of-unknown c.args.words.now c.in-Some.command.now c.in-Some.rest.now c.in-Some.ensures.cases.0
-        (λ is. c.in_default-as_str.not-pilots (c.as_str.ensures.value ∙ is)) in
+    (λ is. c.in_default-as_str.not-pilots (c.as_str.ensures.value ∙ is)) in
     subst (IfBad (λ fault. command_of (words_of c.args.words.now) ≡ Err fault)) (sym c.bad-in_default-as_str.ensures) unknown
