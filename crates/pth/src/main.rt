@@ -25,7 +25,11 @@ fn main(rt: HostRuntime) -> ExitCode {
     let mut out = StdSink::new(&rt);
     let status = match words(&rt) {
         Ok(words) => run(&rt, rt.alloc(), &words, &mut files, &mut out),
-        Err(_) => run(&rt, rt.alloc(), &[], &mut files, &mut out),
+        // No words can be told apart here, so what is refused is one that names no command.
+        Err(_) => {
+            let unknown = [String::new(rt.alloc())];
+            run(&rt, rt.alloc(), &unknown, &mut files, &mut out)
+        }
     };
     ExitCode::from(status)
 }

@@ -7,6 +7,7 @@ mod PartResults
 mod Parts
 mod RecordSteps
 mod Refusals
+mod Repeats
 mod Results
 mod TextSteps
 mod Writes

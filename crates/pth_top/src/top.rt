@@ -8,12 +8,12 @@ ghost use Rattle.pth_top.specs.Texts.{file_fault, no_memory};
 ghost use Rattle.command_words.specs.declared.faults.WordFault.{WordFault};
 ghost use Rattle.command_words.specs.Options.{words_of};
 ghost use Rattle.command_words.specs.Words.{command_of};
-ghost use Rattle.pth_top.specs.Words.{refused, done};
+ghost use Rattle.pth_top.specs.Words.{refused, done, CommandRepeats};
 
 use crate::answer::{Answer, Stop};
 use crate::pilots::pilots;
 use crate::text::refused_word_text;
-use crate::{FAILED_OUTPUT, FILE_FAULT, NO_MEMORY, WORDS_REFUSED};
+use crate::{FAILED_OUTPUT, FILE_FAULT, NO_MEMORY, REPEATED_KEY, WORDS_REFUSED};
 use command_words::{Command, WordFault, WordsErr, read_words};
 use pth_outside::{Files, Sink, SinkErr};
 use std::alloc::{AllocError, Global};
@@ -37,6 +37,10 @@ pub fn run<R, F: Files, O: Sink>(
         result ≢ NO_MEMORY → EndsAs (refused fault) result (O.told out.old) (O.told out.new) (O.faults out.old) (O.faults out.new) }
     ensures no_call { IsErr (command_of (words_of words.now)) → files.new ≡ files.old }
     ensures only_refused { result ≡ WORDS_REFUSED → IsErr (command_of (words_of words.now)) }
+
+    // Pairwise different keys are never refused for a repeat.
+    ensures repeated { result ≡ REPEATED_KEY →
+        IfSome (F.told files.old) (CommandRepeats (command_of (words_of words.now))) }
 
     // A file fault comes only where the files failed, and over sure files only where the key file is missing.
     ensures fault { result ≡ FILE_FAULT → Rose (F.faults files.old) (F.faults files.new) }
