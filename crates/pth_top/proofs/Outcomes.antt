@@ -1,13 +1,13 @@
 -- The walk over the seeds, one attempt after another.
-use Rattle.std.proofs.Common.{◌≡◌, ℕ, zero, suc, ◌+◌, ◌<◌, Bool, true, false, cond, List, [], ◌∷◌, ◌++◌, length, drop, get_or, refl, sym, ap, ◌∙◌, subst, arith}
+use Rattle.std.proofs.Common.{◌≡◌, ℕ, zero, suc, ◌+◌, ◌<◌, true, false, cond, List, [], ◌∷◌, ◌++◌, length, drop, get_or, sym, ap, ◌∙◌, arith}
 use Rattle.std.specs.Prelude.{bytes_eq, slice_get, Some}
 use Rattle.std.proofs.Math.Seq.{drop-cons}
 use Rattle.build_outcome.specs.declared.Cause.{Cause}
 use Rattle.build_outcome.specs.declared.Cause.TheVariants.{SameHash, Stuck}
-use Rattle.build_outcome.specs.Clash.{key_at, clash_of}
+use Rattle.build_outcome.specs.Clash.{key_at}
 use Rattle.build_outcome.specs.ClashLaws.{IsEarlierIn, clash_of-earlier}
-use Rattle.build_outcome.specs.Attempt.{Rules, PartPilots, Attempt, clashed, stuck, ended, attempt_of}
-use Rattle.build_outcome.specs.Outcome.{Outcome, repeated, built, after_attempt, outcome_from}
+use Rattle.build_outcome.specs.Attempt.{Rules, PartPilots, clashed, stuck, ended, attempt_of}
+use Rattle.build_outcome.specs.Outcome.{repeated, built, after_attempt, outcome_from}
 use Rattle.build_outcome.specs.OutcomeLaws.{attempt_of-clashed}
 
 -- the keys of a clash are in the list

@@ -1,13 +1,12 @@
 -- The pilots of a partition, from what the search for them placed.
-use Rattle.std.proofs.Common.{◌≡◌, ℕ, List, length, refl, sym, ap, ◌∙◌, subst}
+use Rattle.std.proofs.Common.{◌≡◌, ℕ, List, length, ap, ◌∙◌, subst}
 use Rattle.pthash.specs.declared.Record.{Record}
 use Rattle.pthash.specs.Sizes.{table_size_of, bucket_count_of}
 use Rattle.pthash.specs.Order.{Bucket, order_of}
 use Rattle.pthash.specs.ByBucket.{pilots_by_number}
 use Rattle.pthash.specs.Search.{SearchPlan}
 use Rattle.pilot_search.specs.declared.placing.Placed.{Placed}
-use Rattle.pilot_search.specs.declared.placing.Stuck.{Stuck}
-use Rattle.pilot_search.specs.Outcome.{IsPlaced, IsStuckAt}
+use Rattle.pilot_search.specs.Outcome.{IsPlaced}
 use Rattle.build_outcome.specs.Attempt.{Rules, part_plan}
 use Rattle.pth_top.specs.Part.{ArePilotsOf}
 

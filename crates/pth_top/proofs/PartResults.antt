@@ -1,7 +1,6 @@
 -- A partition, from what the search for it came to.
-use Rattle.std.proofs.Common.{◌≡◌, ℕ, ◌<◌, List, [], ◌∷◌, length, Result, Ok, Err, refl, sym, ap, ◌∙◌, arith}
+use Rattle.std.proofs.Common.{◌≡◌, ℕ, ◌<◌, List, [], ◌∷◌, length, Result, Ok, Err, sym, ap, ◌∙◌, arith}
 use Rattle.pthash.specs.declared.Record.{Record}
-use Rattle.pthash.specs.Search.{search_of}
 use Rattle.pthash.specs.Sizes.{bucket_count_of}
 use Rattle.pilot_search.specs.declared.placing.Stuck.{Stuck}
 use Rattle.pilot_search.specs.Outcome.{IsStuckAt}

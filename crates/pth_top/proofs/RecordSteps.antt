@@ -1,7 +1,7 @@
 -- The records of keys, one more at a time.
-use Rattle.std.proofs.Common.{◌≡◌, ℕ, zero, suc, ◌+◌, ◌<◌, ◌≤◌, List, [], ◌∷◌, ◌++◌, length, drop, Option, Some, None, refl, sym, ap, ◌∙◌, subst, arith}
+use Rattle.std.proofs.Common.{◌≡◌, ℕ, zero, suc, ◌+◌, List, [], ◌∷◌, ◌++◌, drop, Some, sym, ap, ◌∙◌, arith}
 use Rattle.std.specs.Prelude.{slice_get}
-use Rattle.std.proofs.lemmas.List.{append_assoc, append-nil, drop_all}
+use Rattle.std.proofs.lemmas.List.{append_assoc}
 use Rattle.pthash.specs.declared.Record.{Record}
 use Rattle.pthash.specs.Hash.{first_hash, second_hash}
 use Rattle.pthash.specs.Records.{records_from, records_of}

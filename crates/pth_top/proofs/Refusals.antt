@@ -1,5 +1,5 @@
 -- A run whose words are refused.
-use Rattle.std.proofs.Common.{◌≡◌, ℕ, List, Option, ⊎_elim, refl, sym, ap, ◌∙◌, subst, arith}
+use Rattle.std.proofs.Common.{◌≡◌, ℕ, List, Option, ⊎_elim, ap, ◌∙◌, subst, arith}
 use Rattle.std.specs.Prelude.{◌⊎◌}
 use Rattle.command_words.specs.declared.faults.WordFault.{WordFault}
 use Rattle.pth_outside.specs.Sink.{written, Prints}

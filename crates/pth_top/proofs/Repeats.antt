@@ -1,5 +1,5 @@
 -- A list that is refused for a repeated key has one.
-use Rattle.std.proofs.Common.{◌≡◌, ℕ, true, false, cond, List, [], ◌∷◌, length, take, Option, Some, None, IfSome, Result, Ok, Err, option_map, refl, sym, ap, ◌∙◌, subst, arith, ⊎_elim}
+use Rattle.std.proofs.Common.{◌≡◌, ℕ, true, false, cond, List, [], ◌∷◌, length, take, Option, Some, None, IfSome, Result, Ok, Err, option_map, refl, sym, ap, ◌∙◌, arith, ⊎_elim}
 use Rattle.std.specs.Prelude.{◌⊎◌, IsSomeAnd, nat_lt}
 use Rattle.std.specs.FinMap as map
 use Rattle.build_outcome.specs.Outcome.{Outcome, repeated, exhausted, built, outcome_of}

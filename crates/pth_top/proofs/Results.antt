@@ -1,12 +1,12 @@
 -- What the answers of `pilots` give, in the words of its definition.
-use Rattle.std.proofs.Common.{◌≡◌, ℕ, ◌<◌, ◌≤◌, false, true, List, [], ◌∷◌, length, take, Option, Some, None, IfSome, option_map, refl, sym, ap, ◌∙◌, subst, arith}
+use Rattle.std.proofs.Common.{◌≡◌, ℕ, ◌≤◌, false, true, List, [], ◌∷◌, length, take, Option, Some, None, IfSome, option_map, refl, sym, ap, ◌∙◌, arith}
 use Rattle.std.specs.Prelude.{IsSomeAnd, nat_lt, cond}
 use Rattle.std.specs.FinMap as map
 use Rattle.std.proofs.lemmas.Bool.{lt-ltb, le-ltb}
 use Rattle.std.proofs.lemmas.List.{take_all}
 use Rattle.build_outcome.specs.Outcome.{Outcome, outcome_of}
 use Rattle.command_words.specs.Options.{OptionsData}
-use Rattle.pth_outside.specs.Files.{FileMap, OfFile, contents}
+use Rattle.pth_outside.specs.Files.{FileMap, OfFile}
 use Rattle.pth_outside.specs.Keys.{keys_of, first_too_long, AreTooMany}
 use Rattle.pth_top.specs.Done.{Done}
 use Rattle.pth_top.specs.Pilots.{pilots_result, keys_result, outcome_result, rules_of, too_long_result, too_many_result, no_keys_result, unless_too_long}

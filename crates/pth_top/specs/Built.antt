@@ -1,5 +1,5 @@
 -- What the code's partitions, attempts and outcomes stand for.
-use Rattle.std.specs.Prelude.{ℕ, List, map, Result, Ok, Err}
+use Rattle.std.specs.Prelude.{ℕ, map, Result, Ok, Err}
 use Rattle.build_outcome.specs.Attempt.{PartPilots, Attempt, clashed, stuck, ended}
 use Rattle.build_outcome.specs.Outcome.{Outcome, repeated, exhausted, built}
 use Rattle.pth_top.specs.declared.partition.Part.{Part}

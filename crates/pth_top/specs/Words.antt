@@ -1,5 +1,5 @@
 -- What the words after the program's name give over files.
-use Rattle.std.specs.Prelude.{ℕ, List, Option, Some, None, Result, Ok, Err, IsSomeAnd, option_map}
+use Rattle.std.specs.Prelude.{ℕ, List, Option, Some, Result, Ok, Err, IsSomeAnd, option_map}
 use Rattle.std.specs.FinMap as fin
 use Rattle.build_outcome.specs.OutcomeLaws.{IsRepeat}
 use Rattle.command_words.specs.declared.faults.WordFault.{WordFault}

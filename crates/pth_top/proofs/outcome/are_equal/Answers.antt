@@ -1,5 +1,4 @@
-use Rattle.std.proofs.Common.{rules, sym, ap, ◌∙◌, List, ℕ}
-use Rattle.std.specs.Prelude.{bytes_eq}
+use Rattle.std.proofs.Common.{rules}
 use Rattle.pth_top.proofs.Outcomes.{key_at_get}
 use Rattle.pth_top.proofs.outcome.are_equal.Goals as goal
 

@@ -1,5 +1,4 @@
-use Rattle.std.proofs.Common.{◌≡◌, arith, rules, sym, ap, ◌∙◌, get_or, length, List, ℕ}
-use Rattle.build_outcome.specs.Attempt.{clashed, attempt_of}
+use Rattle.std.proofs.Common.{arith, rules, sym, ap, ◌∙◌, get_or, length, List, ℕ}
 use Rattle.pth_top.specs.Built.{attempt_data}
 use Rattle.pth_top.specs.Part.{rules_in}
 use Rattle.pth_top.proofs.Outcomes.{places_of_clash, repeated_here, clashed_here, stuck_here}

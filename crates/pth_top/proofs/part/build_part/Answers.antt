@@ -1,4 +1,4 @@
-use Rattle.std.proofs.Common.{arith, rules}
+use Rattle.std.proofs.Common.{rules}
 use Rattle.pth_top.specs.Part.{rules_in}
 use Rattle.pth_top.proofs.PartResults.{empty_part, built_part, stuck_part}
 use Rattle.pth_top.proofs.part.build_part.Goals as goal

@@ -1,4 +1,4 @@
-use Rattle.std.proofs.Common.{arith, rules}
+use Rattle.std.proofs.Common.{rules}
 use Rattle.std.proofs.lemmas.Result.{IfOk-at_ok}
 use Rattle.pilot_search.specs.Outcome.{IsPlaced}
 use Rattle.pth_top.specs.Part.{rules_in}

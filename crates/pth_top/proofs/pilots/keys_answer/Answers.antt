@@ -1,4 +1,4 @@
-use Rattle.std.proofs.Common.{arith, rules, ◌∙◌}
+use Rattle.std.proofs.Common.{arith, ◌∙◌}
 use Rattle.command_words.specs.Options.{options_data}
 use Rattle.pth_top.specs.Built.{outcome_data}
 use Rattle.pth_top.proofs.Results.{no_keys_done, keys_done}

@@ -1,4 +1,4 @@
-use Rattle.std.proofs.Common.{arith, rules}
+use Rattle.std.proofs.Common.{arith}
 use Rattle.pth_top.proofs.TextSteps.{parts_text_more}
 use Rattle.pth_top.proofs.text.push_parts.Goals as goal
 
