@@ -1,7 +1,7 @@
 -- A list of keys as one run of bytes and the places where they end.
 use Rattle.std.proofs.Common.{◌≡◌, ◌≤◌, ◌<◌, ◌+◌, ◌-◌, ℕ, zero, suc, List, [], ◌∷◌, ◌++◌, Some, length, take, drop, get_or, refl, sym, ap, subst, ◌∙◌, arith, length-append, length-drop}
 use Rattle.std.specs.Prelude.{slice_get}
-use Rattle.std.proofs.lemmas.List.{take_at, drop_at, take-append-le, drop-append-le, length-take, take_all}
+use Rattle.std.proofs.lemmas.List.{drop_at, take-append-le, drop-append-le, length-take, take_all}
 use Rattle.pth_outside.specs.declared.TheConstants.{LONGEST_KEY}
 use Rattle.pth_outside.specs.KeyBytes.{cut_at, AreEnds, begin_at}
 
@@ -28,7 +28,7 @@ cut_at-push start (end ∷ ends) bytes more are =
     let begin : start ≤ length bytes = omega (arith, are.0) in
     let room : end - start ≤ length (drop start bytes) = omega (arith, length-drop start bytes) in
     let first : take (end - start) (drop start (bytes ++ more)) ≡ take (end - start) (drop start bytes) =
-      ap (take (end - start)) (drop-append-le start bytes more begin) ∙ take-append-le (end - start) (drop start bytes) more room in
+    ap (take (end - start)) (drop-append-le start bytes more begin) ∙ take-append-le (end - start) (drop start bytes) more room in
     ap (λ (key : List ℕ). key ∷ cut_at end (ends ++ (length bytes + length more) ∷ []) (bytes ++ more)) first
     ∙ ap (λ (keys : List (List ℕ)). take (end - start) (drop start bytes) ∷ keys) (cut_at-push end ends bytes more are.2)
 

@@ -3,9 +3,9 @@ use Rattle.std.proofs.Common.{◌≡◌, ◌≤◌, ◌<◌, ◌+◌, ◌-◌, �
 use Rattle.std.specs.Result.{IfOk}
 use Rattle.std.proofs.lemmas.List.{take-append-le, length-take-le, drop-take, drop-drop, drop_all}
 use Rattle.std.proofs.Math.Seq.{take-append-add}
-use Rattle.std.proofs.Common.{Bool, true, false, Option, zero, suc, cond, get_or, eqb}
+use Rattle.std.proofs.Common.{Bool, false, Option, suc, get_or}
 use Rattle.std.specs.Prelude.{◌==◌, if◌then◌else◌}
-use Rattle.std.specs.List.{slice_split, onto_first, count_by}
+use Rattle.std.specs.List.{slice_split, onto_first}
 use Rattle.std.proofs.lemmas.Bool.{false_from_ne_true, eqb-true}
 use Rattle.std.proofs.lemmas.List.{take_all, take-take, get_or-take, take-append-drop}
 use Rattle.std.proofs.lemmas.List.Splits.{slice_split-cons_no, length-slice_split}
@@ -36,8 +36,8 @@ pub ahead_behind : (items : List ℕ) (start end whole : ℕ) → start + whole 
 ahead_behind items start end whole fits =
     let parts : end - start ≡ whole + (end - (start + whole)) = omega arith in
     sym (ap (λ (n : ℕ). drop whole (take n (drop start items))) parts
-      ∙ drop-take whole (end - (start + whole)) (drop start items)
-      ∙ ap (take (end - (start + whole))) (drop-drop whole start items ∙ ap (λ (n : ℕ). drop n items) (omega arith)))
+    ∙ drop-take whole (end - (start + whole)) (drop start items)
+    ∙ ap (take (end - (start + whole))) (drop-drop whole start items ∙ ap (λ (n : ℕ). drop n items) (omega arith)))
 
 abbrev is_feed : ℕ → Bool
 is_feed b = b == LINE_FEED
@@ -100,7 +100,7 @@ next_long rest ahead is stuck =
     let part = long_split ahead (drop (length ahead) rest) (λ k within. false_from_ne_true _ (stuck.none k (omega arith) within)) in
     let long : LONGEST_KEY < length part.0 = omega (arith, part.3, stuck.full) in
     subst (λ (x : List ℕ). HasLongFirst (without_empty_last (slice_split is_feed x))) whole
-      (subst (λ (x : List (List ℕ)). HasLongFirst (without_empty_last x)) (sym part.2) (long_first part.0 part.1 long))
+    (subst (λ (x : List (List ℕ)). HasLongFirst (without_empty_last x)) (sym part.2) (long_first part.0 part.1 long))
 
 -- the same place and the same bytes ahead are the same reader
 pub same_reader : (old new : Reader) → IsAt old new → new.ahead ≡ old.ahead → new ≡ old
@@ -121,9 +121,9 @@ step_more old new told count at read within step bytes is =
     let size : length next ≡ count = length-take-le count (drop (old.place + length old.ahead) bytes) (omega (arith, length-drop (old.place + length old.ahead) bytes)) in
     let joined : length (old.ahead ++ next) ≡ length old.ahead + count = length-append old.ahead next ∙ ap (λ (n : ℕ). length old.ahead + n) size in
     let parts : take (length old.ahead + count) (drop old.place bytes) ≡ old.ahead ++ next =
-      take-add (length old.ahead) count (drop old.place bytes)
-      ∙ ap (λ (x : List ℕ). x ++ take count (drop (length old.ahead) (drop old.place bytes))) (sym (step bytes named))
-      ∙ ap (λ (x : List ℕ). old.ahead ++ take count x) (drop-drop (length old.ahead) old.place bytes) in
+    take-add (length old.ahead) count (drop old.place bytes)
+    ∙ ap (λ (x : List ℕ). x ++ take count (drop (length old.ahead) (drop old.place bytes))) (sym (step bytes named))
+    ∙ ap (λ (x : List ℕ). old.ahead ++ take count x) (drop-drop (length old.ahead) old.place bytes) in
     read bytes named ∙ sym parts
     ∙ ap (λ (n : ℕ). take n (drop old.place bytes)) (sym (ap length (read bytes named) ∙ joined))
     ∙ ap (λ (n : ℕ). take (length new.ahead) (drop n bytes)) (sym at.place)

@@ -32,9 +32,13 @@ IsThere told name = IsSome told → IsSome (contents told name)
 abbrev pub HasBytes : Option FileMap → List ℕ → List ℕ → Type 0
 HasBytes told name bytes = IsSome told → contents told name ≡ Some bytes
 
+-- where the files tell, this one is there, and this holds of its bytes
+abbrev pub OfFile : Option FileMap → List ℕ → (List ℕ → Type 0) → Type 0
+OfFile told name P = IsSome told → IsSomeAnd (contents told name) P
+
 -- where the files tell, this one has more bytes than that
 abbrev pub IsLonger : Option FileMap → List ℕ → ℕ → Type 0
-IsLonger told name most = IsSome told → IsSomeAnd (contents told name) (λ bytes. most < length bytes)
+IsLonger told name most = OfFile told name (λ bytes. most < length bytes)
 
 -- the map, but with this at a name, or with nothing there
 abbrev pub put_at : {X : Type 0} → AtNames X → List ℕ → Option X → AtNames X

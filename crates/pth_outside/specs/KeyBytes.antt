@@ -1,5 +1,5 @@
 -- A list of keys as one run of bytes and the places where they end.
-use Rattle.std.specs.Prelude.{◌≡◌, ℕ, zero, suc, slice_index, ◌+◌, ◌-◌, ◌≤◌, List, [], ◌∷◌, length, take, drop}
+use Rattle.std.specs.Prelude.{◌≡◌, ℕ, zero, suc, slice_index, ◌+◌, ◌-◌, ◌≤◌, List, [], ◌∷◌, take, drop}
 use Rattle.pth_outside.specs.declared.TheConstants.{LONGEST_KEY}
 
 -- the keys from a place on, cut at their ends

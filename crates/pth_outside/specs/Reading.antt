@@ -1,5 +1,5 @@
 -- A reader of the lines of a file: where it stands, and which line comes next.
-use Rattle.std.specs.Prelude.{◌≡◌, ℕ, ◌+◌, ◌-◌, ◌*◌, ◌<◌, ◌≤◌, List, [], ◌∷◌, length, take, drop, slice_index, Option}
+use Rattle.std.specs.Prelude.{◌≡◌, ℕ, ◌+◌, ◌<◌, ◌≤◌, List, [], ◌∷◌, length, take, drop, slice_index, Option}
 use Rattle.std.specs.Option.{ForSome}
 use Rattle.pth_outside.specs.declared.TheConstants.{LINE_FEED, LONGEST_KEY}
 use Rattle.pth_outside.specs.Files.{FileMap, contents, IsThere}

@@ -2,6 +2,7 @@
 #![tactic(auto)]
 
 mod files;
+mod key_file;
 mod key_list;
 mod line_reader;
 mod memory_files;
@@ -11,6 +12,7 @@ mod slots;
 mod whole;
 
 pub use files::{FileErr, Files};
+pub use key_file::{KeysErr, read_keys};
 pub use key_list::KeyList;
 pub use line_reader::{Line, LineErr, LineReader};
 pub use memory_files::MemFiles;

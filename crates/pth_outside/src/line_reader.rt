@@ -5,9 +5,9 @@ ghost use Rattle.pth_outside.specs.Files.{Rose, contents, IsThere};
 ghost use Rattle.pth_outside.specs.Keys.{keys_of, HasNoFeed};
 ghost use Rattle.pth_outside.specs.Reading.{IsInStep, lines_left, advanced, IsAt, HasLongFirst, IsStuck, IsFirstFeed, IsNextLine, IsTooLong};
 
+use crate::whole::zeros;
 use crate::{FileErr, Files, LINE_FEED, LONGEST_KEY, NoMemory};
 use memchr::memchr;
-use crate::whole::zeros;
 use std::alloc::{AllocError, Global};
 use std::marker::Model;
 
@@ -33,10 +33,11 @@ impl Model for LineReader {
     ghost Value = { Reader };
 
     ghost view = { λ r. record {
-        name = string_bytes r.name;
-        place = r.place;
-        ahead = take (r.end - r.start) (drop r.start r.buffer.items);
-        lines = r.lines } };
+      name = string_bytes r.name;
+      place = r.place;
+      ahead = take (r.end - r.start) (drop r.start r.buffer.items);
+      lines = r.lines;
+    } };
 
     ghost invariant = { λ r. AreFields (length r.buffer.items) r.start r.end r.place r.lines };
 }
@@ -87,7 +88,8 @@ fn read_behind<F: Files>(
     ensures told { F.told files.new ≡ F.told files.old }
     ensures sure { F.sure files.new ≡ F.sure files.old }
     ensures later { F.faults files.old ≤ F.faults files.new }
-    ensures failed { IsErrOf result FileErr.Failed → Rose (F.faults files.old) (F.faults files.new) }
+    ensures failed { IsErrOf result FileErr.Failed →
+        Rose (F.faults files.old) (F.faults files.new) }
     ensures missing { IsErrOf result FileErr.Failed → IsTrue (F.sure files.old) →
         contents (F.told files.old) name.now ≡ None }
 {
@@ -143,7 +145,8 @@ impl LineReader {
         requires begins { span.len ≤ span.whole }
         requires lines { self.old.lines < 2 ^ 40 }
         ensures ok { OnOk result (self.new ≡ advanced span.whole self.old) }
-        ensures line { OnOk result (into.new.items ≡ into.old.items ++ take span.len self.old.ahead) }
+        ensures line { OnOk result
+            (into.new.items ≡ into.old.items ++ take span.len self.old.ahead) }
         ensures err { OnErr result (self.new ≡ self.old) }
         ensures kept { OnErr result (into.new.items ≡ into.old.items) }
     {
@@ -159,7 +162,8 @@ impl LineReader {
         requires room { length self.old.ahead < BUFFER }
         requires lines { self.old.lines < 2 ^ 40 }
         ensures at { IsAt self.old self.new }
-        ensures more { IfOk result (λ count. length self.new.ahead ≡ length self.old.ahead + count) }
+        ensures more { IfOk result (λ count.
+            length self.new.ahead ≡ length self.old.ahead + count) }
         ensures err { OnErr result (self.new.ahead ≡ self.old.ahead) }
         ensures none { result ≡ Ok 0 → self.new.ahead ≡ self.old.ahead }
         ensures read { IfOk result (λ count.
@@ -177,7 +181,8 @@ impl LineReader {
         ensures told { F.told files.new ≡ F.told files.old }
         ensures sure { F.sure files.new ≡ F.sure files.old }
         ensures later { F.faults files.old ≤ F.faults files.new }
-        ensures failed { IsErrOf result FileErr.Failed → Rose (F.faults files.old) (F.faults files.new) }
+        ensures failed { IsErrOf result FileErr.Failed →
+            Rose (F.faults files.old) (F.faults files.new) }
         ensures missing { IsErrOf result FileErr.Failed → IsTrue (F.sure files.old) →
             contents (F.told files.old) self.old.name ≡ None }
     {
@@ -185,7 +190,13 @@ impl LineReader {
         self.end -= self.start;
         self.start = 0;
         let at = self.place + self.end as u64;
-        let count = read_behind(files, self.name.as_str(), at, self.buffer.as_mut_slice(), self.end)?;
+        let count = read_behind(
+            files,
+            self.name.as_str(),
+            at,
+            self.buffer.as_mut_slice(),
+            self.end,
+        )?;
         self.end += count;
         Ok(count)
     }
@@ -194,7 +205,8 @@ impl LineReader {
     fn find_line<F: Files>(&mut self, files: &mut F) -> Result<Option<Span>, LineErr>
         requires { self.old.lines < 2 ^ 40 }
         ensures at { IsAt self.old self.new }
-        ensures step { IsInStep self.old (F.told files.old) → IsInStep self.new (F.told files.old) }
+        ensures step { IsInStep self.old (F.told files.old) →
+            IsInStep self.new (F.told files.old) }
         ensures line { IfOk result (λ found. IfSome found (λ span.
             IsNextLine self.new (F.told files.old) span.len span.whole)) }
         ensures end { result ≡ Ok None → IsInStep self.old (F.told files.old) →
@@ -205,11 +217,13 @@ impl LineReader {
         ensures again { IsStuck self.old.ahead →
             IsErrOf result (LineErr.TooLong (self.old.lines + 1)) }
 
-        ensures there { OnOk result (self.old.ahead ≡ [] → IsThere (F.told files.old) self.old.name) }
+        ensures there { OnOk result (self.old.ahead ≡ [] →
+            IsThere (F.told files.old) self.old.name) }
         ensures told { F.told files.new ≡ F.told files.old }
         ensures sure { F.sure files.new ≡ F.sure files.old }
         ensures later { F.faults files.old ≤ F.faults files.new }
-        ensures fault { IsErrOf result LineErr.Fault → Rose (F.faults files.old) (F.faults files.new) }
+        ensures fault { IsErrOf result LineErr.Fault →
+            Rose (F.faults files.old) (F.faults files.new) }
         ensures missing { IsErrOf result LineErr.Fault → IsTrue (F.sure files.old) →
             contents (F.told files.old) self.old.name ≡ None }
     {
@@ -264,16 +278,19 @@ impl LineReader {
         ensures counted { result ≡ Ok Line.Got → self.new.lines ≡ self.old.lines + 1 }
         ensures stays { result ≡ Ok Line.End → IsAt self.old self.new }
         ensures err { OnErr result (IsAt self.old self.new) }
-        ensures step { IsInStep self.old (F.told files.old) → IsInStep self.new (F.told files.old) }
+        ensures step { IsInStep self.old (F.told files.old) →
+            IsInStep self.new (F.told files.old) }
         ensures empty { result ≡ Ok Line.End → into.new.items ≡ [] }
         ensures empty_err { OnErr result (into.new.items ≡ []) }
 
         // No file changes, whatever the answer.
-        ensures there { OnOk result (self.old.ahead ≡ [] → IsThere (F.told files.old) self.old.name) }
+        ensures there { OnOk result (self.old.ahead ≡ [] →
+            IsThere (F.told files.old) self.old.name) }
         ensures told { F.told files.new ≡ F.told files.old }
         ensures sure { F.sure files.new ≡ F.sure files.old }
         ensures later { F.faults files.old ≤ F.faults files.new }
-        ensures fault { IsErrOf result LineErr.Fault → Rose (F.faults files.old) (F.faults files.new) }
+        ensures fault { IsErrOf result LineErr.Fault →
+            Rose (F.faults files.old) (F.faults files.new) }
         ensures missing { IsErrOf result LineErr.Fault → IsTrue (F.sure files.old) →
             contents (F.told files.old) self.old.name ≡ None }
     {
@@ -285,5 +302,27 @@ impl LineReader {
             },
             None => Ok(Line::End),
         }
+    }
+}
+
+#[cfg(test)]
+mod tests {
+    use super::*;
+    use crate::MemFiles;
+    use std::test::Fail;
+
+    #[test]
+    fn a_line_that_is_too_long_stays_so(rt: HostRuntime) -> Result<(), Fail> {
+        let alloc = rt.alloc();
+        let text = zeros(alloc, 65536)?;
+        let mut files = MemFiles::new(alloc, Vec::new(alloc), 40000);
+        files.put("f", text.as_slice()).ok().ok_or("memory")?;
+        let mut reader = LineReader::new(alloc, "f").ok().ok_or("memory")?;
+        let mut line = Vec::new(alloc);
+        let first = reader.next_line(&mut files, &mut line);
+        assert_eq!(rt; first, Err(LineErr::TooLong { line: 1 }));
+        let again = reader.next_line(&mut files, &mut line);
+        assert_eq!(rt; again, Err(LineErr::TooLong { line: 1 }));
+        Ok(())
     }
 }

@@ -55,7 +55,8 @@ fn by_number(
     m: u64,
 ) -> Result<Vec<u64>, AllocError>
     requires one_a_rank { length pilots.now ≡ length buckets.now }
-    requires below { (rank : ℕ) → rank < length buckets.now → (bucket_at buckets.now rank).number < m }
+    requires below { (rank : ℕ) → rank < length buckets.now →
+        (bucket_at buckets.now rank).number < m }
     ensures { IfOk result (λ v. v.items ≡ pilots_by_number buckets.now pilots.now m) }
 {
     let mut by_number = zeros(alloc, m as usize)?;

@@ -11,7 +11,8 @@ use std::alloc::{AllocError, Global};
 
 /// The records of the keys of a text at a seed.
 pub fn records_of_text(alloc: Global, text: &[u8], seed: u64) -> Result<Vec<Record>, AllocError>
-    ensures records { IfOk result (λ records. records.items ≡ records_of (keys_of text.now) seed) }
+    ensures records { IfOk result (λ records.
+        records.items ≡ records_of (keys_of text.now) seed) }
     ensures few { IfOk result (λ records. length records.items ≤ length text.now) }
 {
     let mut records = Vec::new(alloc);

@@ -7,7 +7,8 @@ use std::fmt::Write;
 
 // Appends a label and a number in plain decimal.
 fn push_number(text: &mut String, label: &str, number: u64) -> Result<(), AllocError>
-    ensures { OnOk result (string_bytes text.new ≡ string_bytes text.old ++ (label.now ++ decimal number)) }
+    ensures { OnOk result
+        (string_bytes text.new ≡ string_bytes text.old ++ (label.now ++ decimal number)) }
 {
     write!(text, "{label}{number}")
 }
@@ -24,7 +25,8 @@ fn push_pilots(text: &mut String, pilots: &[u64]) -> Result<(), AllocError>
 
 /// Appends the seed and the number of keys, a line each.
 pub fn push_seed(text: &mut String, seed: u64, keys: u64) -> Result<(), AllocError>
-    ensures { OnOk result (string_bytes text.new ≡ string_bytes text.old ++ seed_lines seed keys) }
+    ensures { OnOk result
+        (string_bytes text.new ≡ string_bytes text.old ++ seed_lines seed keys) }
 {
     push_number(text, "seed ", seed)?;
     push_number(text, "\nkeys ", keys)?;

@@ -38,8 +38,8 @@ pub fn run<R, F: Files, O: Sink>(
     ensures fault { result ≡ FILE_FAULT → Rose (F.faults files.old) (F.faults files.new) }
     ensures fault_text { result ≡ FILE_FAULT →
         Prints (O.told out.old) (O.told out.new) (O.faults out.old) (O.faults out.new) file_fault }
-    ensures missing { result ≡ FILE_FAULT → IsTrue (F.sure files.old) → IfSome (F.told files.old) (λ m.
-        done (words_of words.now) m ≡ None) }
+    ensures missing { result ≡ FILE_FAULT → IsTrue (F.sure files.old) →
+        IfSome (F.told files.old) (λ m. done (words_of words.now) m ≡ None) }
 
     // A failed output comes only where the sink failed on the text of a command that was done.
     ensures output { result ≡ FAILED_OUTPUT → Rose (O.faults out.old) (O.faults out.new) }
@@ -48,7 +48,8 @@ pub fn run<R, F: Files, O: Sink>(
         (d.status ≡ 0) × WritesFront d.text (O.told out.old) (O.told out.new))) }
 
     // After want of memory the sink has gained at most its text.
-    ensures memory { result ≡ NO_MEMORY → WritesFront no_memory (O.told out.old) (O.told out.new) }
+    ensures memory { result ≡ NO_MEMORY →
+        WritesFront no_memory (O.told out.old) (O.told out.new) }
 
     // No file changes, whatever the status.
     ensures told { F.told files.new ≡ F.told files.old }
@@ -75,8 +76,8 @@ fn answer<F: Files>(alloc: Global, words: &[String], files: &mut F) -> Result<An
 
     ensures asked { IsErrOf result Stop.Fault → IsSome (key_file_of (words_of words.now)) }
     ensures fault { IsErrOf result Stop.Fault → Rose (F.faults files.old) (F.faults files.new) }
-    ensures missing { IsErrOf result Stop.Fault → IsTrue (F.sure files.old) → IfSome (F.told files.old) (λ m.
-        done (words_of words.now) m ≡ None) }
+    ensures missing { IsErrOf result Stop.Fault → IsTrue (F.sure files.old) →
+        IfSome (F.told files.old) (λ m. done (words_of words.now) m ≡ None) }
 
     ensures told { F.told files.new ≡ F.told files.old }
     ensures sure { F.sure files.new ≡ F.sure files.old }
@@ -110,14 +111,18 @@ fn refusal(alloc: Global) -> Result<Answer, AllocError>
 
 // Hands a text over, and answers its status or that of a sink that failed or had no memory.
 fn show<O: Sink>(out: &mut O, status: u8, text: &[u8]) -> u8
-    requires { (status ≢ FAILED_OUTPUT) × (status ≢ NO_MEMORY) }
+    requires no_failed_output { status ≢ FAILED_OUTPUT }
+    requires no_want { status ≢ NO_MEMORY }
     ensures answers { (result ≡ status) ⊎ ((result ≡ FAILED_OUTPUT) ⊎ (result ≡ NO_MEMORY)) }
     ensures shown { result ≡ status →
         Prints (O.told out.old) (O.told out.new) (O.faults out.old) (O.faults out.new) text.now }
     ensures whole { result ≡ 0 → O.told out.new ≡ written text.now (O.told out.old) }
-    ensures output { result ≡ FAILED_OUTPUT → (status ≡ 0) × Rose (O.faults out.old) (O.faults out.new) }
-    ensures output_front { result ≡ FAILED_OUTPUT → WritesFront text.now (O.told out.old) (O.told out.new) }
-    ensures memory { result ≡ NO_MEMORY → WritesFront no_memory (O.told out.old) (O.told out.new) }
+    ensures done { result ≡ FAILED_OUTPUT → status ≡ 0 }
+    ensures output { result ≡ FAILED_OUTPUT → Rose (O.faults out.old) (O.faults out.new) }
+    ensures output_front { result ≡ FAILED_OUTPUT →
+        WritesFront text.now (O.told out.old) (O.told out.new) }
+    ensures memory { result ≡ NO_MEMORY →
+        WritesFront no_memory (O.told out.old) (O.told out.new) }
 {
     if text.is_empty() {
         return status;

@@ -15,37 +15,37 @@ length-pilots_by_number buckets pilots m = length-map (numbers_below m) (pilot_b
 
 -- the pilot at a number
 pub get_or-pilots_by_number : (buckets : List Bucket) (pilots : List ℕ) (m k : ℕ) → k < m
-  → slice_index (pilots_by_number buckets pilots m) k ≡ pilot_by_number buckets pilots k
+    → slice_index (pilots_by_number buckets pilots m) k ≡ pilot_by_number buckets pilots k
 unfolding pilots_by_number
 get_or-pilots_by_number buckets pilots m k below =
     get_or-map (pilot_by_number buckets pilots) (numbers_below m) k 0 0 (omega (arith, length-numbers_below m))
-      ∙ ap (pilot_by_number buckets pilots) (get_or-numbers_below m k below)
+    ∙ ap (pilot_by_number buckets pilots) (get_or-numbers_below m k below)
 
 -- without buckets each pilot is 0
 pub pilots_by_number-none : (pilots : List ℕ) (m : ℕ) → pilots_by_number [] pilots m ≡ replicate m 0
 pilots_by_number-none pilots m =
     same_number_lists (pilots_by_number [] pilots m) (replicate m 0)
-      (length-pilots_by_number [] pilots m ∙ sym (length-replicate m 0))
-      (λ k within.
-        let below : k < m = omega (arith, length-pilots_by_number [] pilots m) in
-        get_or-pilots_by_number [] pilots m k below ∙ sym (get_or-replicate m k 0 0 below))
+    (length-pilots_by_number [] pilots m ∙ sym (length-replicate m 0))
+    (λ k within.
+    let below : k < m = omega (arith, length-pilots_by_number [] pilots m) in
+    get_or-pilots_by_number [] pilots m k below ∙ sym (get_or-replicate m k 0 0 below))
 
 -- one more bucket before the others sets the pilot at its number
 pub pilots_by_number-cons : (bucket : Bucket) (buckets : List Bucket) (pilot : ℕ) (pilots : List ℕ) (m : ℕ) → bucket.number < m
-  → pilots_by_number (bucket ∷ buckets) (pilot ∷ pilots) m ≡ slice_set (pilots_by_number buckets pilots m) bucket.number pilot
+    → pilots_by_number (bucket ∷ buckets) (pilot ∷ pilots) m ≡ slice_set (pilots_by_number buckets pilots m) bucket.number pilot
 pilots_by_number-cons bucket buckets pilot pilots m within =
     let others : List ℕ = pilots_by_number buckets pilots m in
     let count : length others ≡ m = length-pilots_by_number buckets pilots m in
     let place : bucket.number < length others = omega arith in
     same_number_lists (pilots_by_number (bucket ∷ buckets) (pilot ∷ pilots) m) (slice_set others bucket.number pilot)
-      (length-pilots_by_number (bucket ∷ buckets) (pilot ∷ pilots) m ∙ sym (length-set others bucket.number pilot ∙ count))
-      (λ k in_range.
-        let below : k < m = omega (arith, length-pilots_by_number (bucket ∷ buckets) (pilot ∷ pilots) m) in
-        get_or-pilots_by_number (bucket ∷ buckets) (pilot ∷ pilots) m k below
-          ∙ elim (bucket.number == k) as (λ b. (bucket.number == k) ≡ b → cond b pilot (pilot_by_number buckets pilots k) ≡ slice_index (slice_set others bucket.number pilot) k) [
-            | true ↦ λ same.
-              let here : bucket.number ≡ k = eqb-true bucket.number k same in
-              sym (rw (← here) (get_or-set_same others bucket.number pilot 0 place))
-            | false ↦ λ other.
-              sym (get_or-set_other others bucket.number k pilot 0 (λ e. eqb-false bucket.number k other (sym e)) ∙ get_or-pilots_by_number buckets pilots m k below)
-          ] refl)
+    (length-pilots_by_number (bucket ∷ buckets) (pilot ∷ pilots) m ∙ sym (length-set others bucket.number pilot ∙ count))
+    (λ k in_range.
+    let below : k < m = omega (arith, length-pilots_by_number (bucket ∷ buckets) (pilot ∷ pilots) m) in
+    get_or-pilots_by_number (bucket ∷ buckets) (pilot ∷ pilots) m k below
+    ∙ elim (bucket.number == k) as (λ b. (bucket.number == k) ≡ b → cond b pilot (pilot_by_number buckets pilots k) ≡ slice_index (slice_set others bucket.number pilot) k) [
+      | true ↦ λ same.
+          let here : bucket.number ≡ k = eqb-true bucket.number k same in
+          sym (rw (← here) (get_or-set_same others bucket.number pilot 0 place))
+      | false ↦ λ other.
+          sym (get_or-set_other others bucket.number k pilot 0 (λ e. eqb-false bucket.number k other (sym e)) ∙ get_or-pilots_by_number buckets pilots m k below)
+    ] refl)

@@ -2,6 +2,7 @@ pub mod Hash
 pub mod Sizes
 pub mod Records
 pub mod Order
+pub mod Partitions
 pub mod OrderLaws
 pub mod Search
 pub mod Least

@@ -8,4 +8,4 @@ returns-in-Ok-clause-step g c start =
     let told = g.F.Files.told c.args.files.now in
     let next = rw c.in-Some.is at c.in_ok-span.ensures.line in
     subst (λ (r : Reader). IsInStep r told) (sym c.in-Ok.ensures.ok)
-      (step_advanced c.find_line.new.self told c.in-Some.span.whole next.within (c.in_ok-span.ensures.step start))
+    (step_advanced c.find_line.new.self told c.in-Some.span.whole next.within (c.in_ok-span.ensures.step start))

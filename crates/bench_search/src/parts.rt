@@ -1,0 +1,131 @@
+// The parts that are timed.
+#![tactic(auto)]
+
+use crate::input::{bytes, records};
+use bucket_map::{Buckets, MAX_KEYS, Record, bucket_count, ordered_buckets, table_size};
+use murmur64::{hash_pair, murmur64};
+use pilot_search::{Plan, place};
+use std::alloc::Global;
+use std::io;
+use std::rt::Clock;
+use std::time::Instant;
+
+const ALPHA: u32 = 98;
+
+const BUCKETS: u32 = 700;
+
+const PILOTS: u64 = 16_777_216;
+
+const KEY_LEN: usize = 16;
+
+#[derive(Drop)]
+pub struct Timed {
+    pub nanos: u128,
+    pub checksum: u64,
+}
+
+pub fn time_murmur64(alloc: Global, clock: &impl Clock, count: u32) -> io::Result<Timed> {
+    let text = bytes(alloc, count)?;
+    let start = Instant::now(clock)?;
+    let checksum = murmur64(&text, 1);
+    let nanos = start.elapsed(clock)?.as_nanos();
+    Ok(Timed { nanos, checksum })
+}
+
+pub fn time_pairs(alloc: Global, clock: &impl Clock, count: u32) -> io::Result<Timed> {
+    let text = bytes(alloc, count)?;
+    let start = Instant::now(clock)?;
+    let checksum = pairs_of(&text);
+    let nanos = start.elapsed(clock)?.as_nanos();
+    Ok(Timed { nanos, checksum })
+}
+
+// The pairs of the keys of 16 bytes of which a text is made.
+fn pairs_of(text: &[u8]) -> u64 {
+    let mut checksum = 0;
+    for key in text.chunks_exact(KEY_LEN) {
+        let pair = hash_pair(key, 1);
+        checksum ^= pair.a.wrapping_add(pair.b);
+    }
+    checksum
+}
+
+pub fn time_buckets(alloc: Global, clock: &impl Clock, count: u32) -> io::Result<Timed> {
+    let records = records(alloc, count)?;
+    let start = Instant::now(clock)?;
+    let buckets = buckets_of(alloc, &records)?;
+    let nanos = start.elapsed(clock)?.as_nanos();
+    Ok(Timed {
+        nanos,
+        checksum: checksum_of(&buckets),
+    })
+}
+
+fn buckets_of(alloc: Global, records: &[Record]) -> io::Result<Buckets> {
+    let n = records.len() as u64;
+    if n == 0 || n > MAX_KEYS {
+        return Err(io::Error::from(io::ErrorKind::InvalidInput));
+    }
+    match ordered_buckets(alloc, records, bucket_count(n, BUCKETS)) {
+        Ok(buckets) => Ok(buckets),
+        Err(_) => Err(out_of_memory()),
+    }
+}
+
+fn out_of_memory() -> io::Error {
+    io::Error::from(io::ErrorKind::OutOfMemory)
+}
+
+fn checksum_of(buckets: &Buckets) -> u64 {
+    let mut checksum = 0u64;
+    for rank in 0..buckets.len() {
+        checksum = checksum.wrapping_mul(31).wrapping_add(buckets.bucket(rank));
+        for member in buckets.members(rank) {
+            checksum ^= *member;
+        }
+    }
+    checksum
+}
+
+pub fn time_place(alloc: Global, clock: &impl Clock, count: u32) -> io::Result<Timed> {
+    let records = records(alloc, count)?;
+    let plan = plan_of(alloc, &records)?;
+    let start = Instant::now(clock)?;
+    let answer = place(alloc, &plan);
+    let nanos = start.elapsed(clock)?.as_nanos();
+    match answer {
+        Ok(Ok(placed)) => Ok(Timed {
+            nanos,
+            checksum: checksum_of_pilots(&placed.pilots),
+        }),
+        Ok(Err(stuck)) => Ok(Timed {
+            nanos,
+            checksum: stuck.rank,
+        }),
+        Err(_) => Err(out_of_memory()),
+    }
+}
+
+fn plan_of(alloc: Global, records: &[Record]) -> io::Result<Plan> {
+    let n = records.len() as u64;
+    if n == 0 || n > MAX_KEYS {
+        return Err(io::Error::from(io::ErrorKind::InvalidInput));
+    }
+    match ordered_buckets(alloc, records, bucket_count(n, BUCKETS)) {
+        Ok(buckets) => Ok(Plan {
+            seed: 1,
+            size: table_size(n, ALPHA),
+            limit: PILOTS,
+            buckets,
+        }),
+        Err(_) => Err(out_of_memory()),
+    }
+}
+
+fn checksum_of_pilots(pilots: &[u64]) -> u64 {
+    let mut checksum = 0u64;
+    for pilot in pilots {
+        checksum = checksum.wrapping_mul(31).wrapping_add(*pilot);
+    }
+    checksum
+}

@@ -1,0 +1,6 @@
+pub mod BitLemmas
+pub mod WordLemmas
+pub mod ReadLemmas
+pub mod PackLemmas
+pub mod ViewLemmas
+pub mod SampleLemmas

@@ -1,0 +1,161 @@
+-- Counts of ones over words, and the place of a one.
+use Rattle.std.proofs.Common.{◌≡◌, ℕ, zero, suc, ◌+◌, ◌*◌, ◌-◌, ◌/◌, ◌%◌, ◌^◌, ◌<◌, ◌≤◌, List, [], ◌∷◌, ◌++◌, Bool, length, get_or, take, drop, Option, Some, None, refl, sym, ap, ◌∙◌, subst, inl, inr, arith}
+use Rattle.std.specs.Prelude.{MatchOption}
+use Rattle.std.specs.List.{slice_get}
+use Rattle.std.specs.Int.{bit_at}
+use Rattle.std.specs.Int.RustNames.{count_ones}
+use Rattle.std.proofs.Math.Nat.{mod-one, mod-eq_of_lt, div-eq_of_lt}
+use Rattle.std.proofs.lemmas.Bool.{cases_lt, eq-eqb}
+use Rattle.std.proofs.lemmas.Nat.{mod-pow-add, ones_cat, ones-le, mod_below, pow_pos}
+use Rattle.std.proofs.lemmas.List.{get_or_append_left, get_or_push, length_push}
+use Rattle.std.proofs.lemmas.List.Sums.{sum_by-cons, sum_by-take-le, sum_by_more}
+use Rattle.bit_vector.specs.Bits.{number_of, words_number, words_from, words_for, packed, ones, places}
+use Rattle.bit_vector.specs.Samples.{all_ones, IsOneAt}
+use Rattle.bit_vector.proofs.BitLemmas.{take-bits_of, bits_of-number_of, number_of-lt, ones-bits_of, get_or-bits_of, length-places_from, slice_get-places_from}
+use Rattle.bit_vector.proofs.WordLemmas.{AreWords, words_number-take, count_ones-words}
+use Rattle.bit_vector.proofs.ReadLemmas.{words_number-at, mod-add-multiple, bits_inside}
+
+pub no_ones : count_ones 0 ≡ 0
+no_ones = unfold count_ones in refl
+
+AreWords-rest : (w : ℕ) (ws : List ℕ) → AreWords (w ∷ ws) → AreWords ws
+AreWords-rest w ws h i = h (suc i)
+
+pub all_ones-le : (ws : List ℕ) → AreWords ws → all_ones ws ≤ 64 * length ws
+all_ones-le [] h = omega arith
+all_ones-le (w ∷ ws) h = omega (arith, sum_by-cons count_ones w ws, ones-le 64 w (h 0), all_ones-le ws (AreWords-rest w ws h))
+
+pub all_ones-take-le : (ws : List ℕ) (k : ℕ) → AreWords ws → all_ones (take k ws) ≤ 64 * length ws
+all_ones-take-le ws k h = omega (arith, sum_by-take-le count_ones ws k, all_ones-le ws h)
+
+pub all_ones-more : (ws : List ℕ) (k : ℕ) → k < length ws → all_ones (take (k + 1) ws) ≡ all_ones (take k ws) + count_ones (get_or ws k 0)
+all_ones-more ws k lt = sum_by_more count_ones ws k 0 lt
+
+-- the ones of a number, cut at a place
+pub ones_cut : (n j k : ℕ) → count_ones (n % 2 ^ (j + k)) ≡ count_ones (n / 2 ^ k % 2 ^ j) + count_ones (n % 2 ^ k)
+ones_cut n j k = ap count_ones (mod-pow-add n j k) ∙ ones_cat k (n / 2 ^ k % 2 ^ j) (n % 2 ^ k) (mod_below n (2 ^ k) (pow_pos k))
+
+AreWords-take : (k : ℕ) (ws : List ℕ) → AreWords ws → AreWords (take k ws)
+AreWords-take zero ws h i = omega arith
+AreWords-take (suc k) [] h i = omega arith
+AreWords-take (suc k) (w ∷ ws) h zero = h 0
+AreWords-take (suc k) (w ∷ ws) h (suc i) = AreWords-take k ws (AreWords-rest w ws h) i
+
+word_at : (ws : List ℕ) (w s : ℕ) → AreWords ws → 64 * w + s ≤ 64 * length ws → s < 64 → words_number ws / 2 ^ (64 * w) % 2 ^ s ≡ get_or ws w 0 % 2 ^ s
+word_at ws w s h le lt =
+    elim (cases_lt w (length ws)) [
+      | inl within ↦ ap (λ (m : ℕ). m % 2 ^ s) (words_number-at ws w h within) ∙ mod-add-multiple (get_or ws w 0) (words_number (drop (w + 1) ws)) 64 s (omega arith)
+      | inr past ↦
+          let none : s ≡ 0 = omega arith in
+          rw none (mod-one (words_number ws / 2 ^ (64 * w)) ∙ sym (mod-one (get_or ws w 0)))
+    ]
+
+pub ones_below_place : (ws : List ℕ) (at : ℕ) → AreWords ws → at ≤ 64 * length ws → count_ones (words_number ws % 2 ^ at) ≡ all_ones (take (at / 64) ws) + count_ones (get_or ws (at / 64) 0 % 2 ^ (at % 64))
+ones_below_place ws at h le =
+    let w = at / 64 in
+    let s = at % 64 in
+    let n = words_number ws in
+    let whole : at ≡ s + 64 * w = omega arith in
+    let high : count_ones (n / 2 ^ (64 * w) % 2 ^ s) ≡ count_ones (get_or ws w 0 % 2 ^ s) = ap count_ones (word_at ws w s h (omega arith) (omega arith)) in
+    let low : count_ones (n % 2 ^ (64 * w)) ≡ all_ones (take w ws) = ap count_ones (sym (words_number-take w ws h)) ∙ count_ones-words (take w ws) (AreWords-take w ws h) in
+    ap (λ (j : ℕ). count_ones (n % 2 ^ j)) whole ∙ ones_cut n s (64 * w) ∙ omega (arith, high, low)
+
+-- the place of a one among the words, from its place in its word
+pub one_among : (ws : List ℕ) (w q r i p : ℕ) → AreWords ws → w < length ws → q < 64 → IsOneAt (get_or ws w 0) r q → all_ones (take w ws) + r ≡ i → p ≡ 64 * w + q → IsOneAt (words_number ws) i p
+one_among ws w q r i p h lt less here e at =
+    let word : p / 64 ≡ w = omega arith in
+    let bit : p % 64 ≡ q = omega arith in
+    let inside = bits_inside ws p 1 h (omega arith) (omega arith) in
+    let one : get_or ws (p / 64) 0 / 2 ^ (p % 64) % 2 ^ 1 ≡ 1 = rw (word, bit) here.one in
+    let before : all_ones (take (p / 64) ws) + count_ones (get_or ws (p / 64) 0 % 2 ^ (p % 64)) ≡ i = rw (word, bit, here.before) e in
+    record { one = sym inside ∙ one; before = ones_below_place ws p h (omega arith) ∙ before }
+
+pub record IsSoFar (words counts : List ℕ) (at : ℕ) : Type 0 where
+  pub len : length counts ≡ (at + 7) / 8
+  pub before : (b : ℕ) → b < length counts → get_or counts b 0 ≡ all_ones (take (8 * b) words)
+
+pub count_pushed : (words counts new : List ℕ) (at total : ℕ) → at % 8 ≡ 0 → IsSoFar words counts at → total ≡ all_ones (take at words) → new ≡ counts ++ total ∷ [] → IsSoFar words new (at + 1)
+count_pushed words counts new at total even so_far t e =
+    let longer = length_push counts total in
+    let more : IsSoFar words (counts ++ total ∷ []) (at + 1) = record {
+      len = omega (arith, longer, so_far.len);
+      before = λ b lt. elim (cases_lt b (length counts)) [
+        | inl old ↦ get_or_append_left counts (total ∷ []) 0 b old ∙ so_far.before b old
+        | inr last ↦
+            let same : length counts ≡ b = omega (arith, longer) in
+            let place : at ≡ 8 * b = omega (arith, so_far.len) in
+            get_or_push counts total 0 b same ∙ t ∙ ap (λ (k : ℕ). all_ones (take k words)) place
+      ];
+    } in
+    subst (λ (l : List ℕ). IsSoFar words l (at + 1)) (sym e) more
+
+pub count_kept : (words counts : List ℕ) (at : ℕ) → (at % 8 ≡ 0 → ⊥) → IsSoFar words counts at → IsSoFar words counts (at + 1)
+count_kept words counts at odd so_far = record { len = omega (arith, so_far.len); before = so_far.before }
+
+-- ---- packed bits
+
+length-words_from : (k n : ℕ) → length (words_from k n) ≡ k
+unfolding words_from
+length-words_from zero n = refl
+length-words_from (suc k) n = ap suc (length-words_from k (n / 2 ^ 64))
+
+pub length-packed : (bits : List Bool) → length (packed bits) ≡ words_for (length bits)
+length-packed bits = length-words_from (words_for (length bits)) (number_of bits)
+
+AreWords-words_from : (k n : ℕ) → AreWords (words_from k n)
+unfolding words_from
+AreWords-words_from zero n i = omega arith
+AreWords-words_from (suc k) n zero = mod_below n (2 ^ 64) (omega arith)
+AreWords-words_from (suc k) n (suc i) = AreWords-words_from k (n / 2 ^ 64) i
+
+pub AreWords-packed : (bits : List Bool) → AreWords (packed bits)
+AreWords-packed bits = AreWords-words_from (words_for (length bits)) (number_of bits)
+
+words_number-words_from : (k n : ℕ) → words_number (words_from k n) ≡ n % 2 ^ (64 * k)
+unfolding words_number words_from
+words_number-words_from zero n = sym (mod-one n)
+words_number-words_from (suc k) n =
+    let parts : n % 2 ^ (64 * suc k) ≡ (n / 2 ^ 64 % 2 ^ (64 * k)) * 2 ^ 64 + n % 2 ^ 64 = ap (λ (j : ℕ). n % 2 ^ j) (omega arith) ∙ mod-pow-add n (64 * k) 64 in
+    omega (arith, parts, words_number-words_from k (n / 2 ^ 64))
+
+pub words_number-packed : (bits : List Bool) → words_number (packed bits) ≡ number_of bits
+words_number-packed bits =
+    let room : 2 ^ length bits ≤ 2 ^ (64 * words_for (length bits)) = Rattle.std.proofs.Math.Nat.pow-le-pow_right (omega arith) (omega arith) in
+    words_number-words_from (words_for (length bits)) (number_of bits) ∙ mod-eq_of_lt (omega (arith, number_of-lt bits))
+
+pub ones-take : (bits : List Bool) (at : ℕ) → at ≤ length bits → ones (take at bits) ≡ count_ones (number_of bits % 2 ^ at)
+ones-take bits at le =
+    ap (λ (bs : List Bool). ones (take at bs)) (sym (bits_of-number_of bits)) ∙ ap ones (take-bits_of at (length bits) (number_of bits) le) ∙ ones-bits_of at (number_of bits)
+
+pub all_ones-packed : (bits : List Bool) → all_ones (packed bits) ≡ ones bits
+all_ones-packed bits =
+    sym (count_ones-words (packed bits) (AreWords-packed bits)) ∙ ap count_ones (words_number-packed bits ∙ sym (mod-eq_of_lt (number_of-lt bits)))
+    ∙ sym (ones-bits_of (length bits) (number_of bits)) ∙ ap ones (bits_of-number_of bits)
+
+-- ---- the place of a one in the list
+
+slice_get-past : (xs : List ℕ) (i : ℕ) → length xs ≤ i → slice_get xs i ≡ None
+slice_get-past [] i le = refl
+slice_get-past (x ∷ xs) zero le = absurd (omega arith)
+slice_get-past (x ∷ xs) (suc i) le = slice_get-past xs i (omega arith)
+
+within_bits : (n len p : ℕ) → n < 2 ^ len → bit_at n p ≡ 1 → p < len
+within_bits n len p lt one =
+    elim (cases_lt p len) [
+      | inl less ↦ less
+      | inr le ↦
+          let larger : 2 ^ len ≤ 2 ^ p = Rattle.std.proofs.Math.Nat.pow-le-pow_right (omega arith) le in
+          let none : n / 2 ^ p ≡ 0 = div-eq_of_lt (omega arith) in
+          absurd (omega (arith, one, none))
+    ]
+
+one_found : (bits : List Bool) (i p : ℕ) → IsOneAt (number_of bits) i p → slice_get (places bits) i ≡ Some p
+one_found bits i p at =
+    let n = number_of bits in
+    let lt : p < length bits = within_bits n (length bits) p (number_of-lt bits) at.one in
+    let there = ap (λ (bs : List Bool). get_or bs p Rattle.std.proofs.Common.false) (sym (bits_of-number_of bits)) ∙ get_or-bits_of p (length bits) n lt ∙ eq-eqb (bit_at n p) 1 at.one in
+    slice_get-places_from 0 bits p i lt there (ones-take bits p (omega arith) ∙ at.before) ∙ ap Some (omega arith)
+
+pub select_is : (bits : List Bool) (i : ℕ) (r : Option ℕ) → MatchOption r (all_ones (packed bits) ≤ i) (λ p. IsOneAt (words_number (packed bits)) i p) → r ≡ slice_get (places bits) i
+select_is bits i None h = sym (slice_get-past (places bits) i (omega (arith, length-places_from 0 bits, all_ones-packed bits, h)))
+select_is bits i (Some p) h = sym (one_found bits i p (subst (λ (n : ℕ). IsOneAt n i p) (words_number-packed bits) h))

@@ -1,0 +1,66 @@
+ghost use Rattle.std.specs.Prelude.{◌≡◌, ℕ, ◌<◌, ◌≤◌, List, Bool, length, take, IfOk};
+ghost use Rattle.std.specs.List.{slice_get};
+ghost use Rattle.bit_vector.specs.Bits.{ones, places};
+
+use crate::bits::{BitVec, NoMemory};
+use crate::samples::{counts_of, hints_of, ones_below, place_of};
+use std::alloc::Global;
+use std::marker::Model;
+
+/// Bits with the counts and places that make both questions cheap.
+#[derive(Drop)]
+pub struct Selector {
+    bits: BitVec,
+    counts: Vec<u64>,
+    hints: Vec<usize>,
+}
+
+impl Model for Selector {
+    ghost use Rattle.std.specs.Prelude.{◌^◌, ◌≤◌, List, Bool, length};
+    ghost use Rattle.bit_vector.specs.Bits.{packed};
+    ghost use Rattle.bit_vector.specs.Samples.{IsCounted, IsHinted};
+
+    ghost Value = { List Bool };
+
+    ghost view = { λ s. s.bits };
+
+    ghost invariant = { λ s. IsCounted (packed s.bits) s.counts.items
+        × IsHinted s.hints.items s.counts.items × (length s.bits ≤ 2 ^ 42) };
+}
+
+impl Selector {
+    /// Takes the bits, and drops them on want of memory.
+    pub fn new(alloc: Global, bits: BitVec) -> Result<Selector, NoMemory>
+        ensures { IfOk result (λ s. s ≡ bits) }
+    {
+        let counts = counts_of(alloc, bits.words())?;
+        let hints = hints_of(alloc, &counts)?;
+        Ok(Selector {
+            bits,
+            counts,
+            hints,
+        })
+    }
+
+    /// The place of the one with a number, from 0.
+    pub fn select1(&self, i: u64) -> Option<u64>
+        ensures { result ≡ slice_get (places self.now) i }
+    {
+        place_of(self.bits.words(), &self.counts, &self.hints, i)
+    }
+
+    /// How many ones stand below a place.
+    pub fn rank1(&self, at: u64) -> u64
+        requires { at ≤ length self.now }
+        ensures { result ≡ ones (take at self.now) }
+    {
+        ones_below(self.bits.words(), &self.counts, at as usize)
+    }
+
+    /// The bits.
+    pub fn bits(&self) -> &BitVec
+        ensures { result.now ≡ self.now }
+    {
+        &self.bits
+    }
+}

@@ -1,0 +1,80 @@
+ghost use Rattle.std.specs.Prelude.{◌≡◌, ℕ, ◌+◌, ◌*◌, ◌-◌, ◌/◌, ◌%◌, ◌^◌, ◌<◌, ◌≤◌, ◌↔◌, length, slice_index, IsTrue, OnOk, OnErr};
+ghost use Rattle.bit_vector.specs.Bits.{words_number, IsPacked};
+
+use std::alloc::AllocFailed;
+
+/// The lowest bits of a word.
+pub fn low_bits(word: u64, width: u32) -> u64
+    requires { width ≤ 64 }
+    ensures { result ≡ word % 2 ^ width }
+{
+    if width < 64 {
+        word & ((1 << width) - 1)
+    } else {
+        word
+    }
+}
+
+/// The bits from a place on, at most 64, as a number.
+pub fn bits_at(words: &[u64], at: usize, width: u32) -> u64
+    requires wide { width ≤ 64 }
+    requires within { at + width ≤ 64 * length words.now }
+    ensures { result ≡ words_number words.now / 2 ^ at % 2 ^ width }
+{
+    if width == 0 {
+        return 0;
+    }
+    let first = at / 64;
+    let shift = (at % 64) as u32;
+    let low = words[first] >> shift;
+    if shift + width <= 64 {
+        low_bits(low, width)
+    } else {
+        low_bits(low | words[first + 1] << (64 - shift), width)
+    }
+}
+
+/// Whether the words are just those that so many bits take, with no unused bit set.
+pub fn is_packed(words: &[u64], len: u64) -> bool
+    ensures { IsTrue result ↔ IsPacked words.now len }
+{
+    if words.len() as u64 != len.div_ceil(64) {
+        return false;
+    }
+    let used = (len % 64) as u32;
+    if used == 0 {
+        return true;
+    }
+    words[(len / 64) as usize] >> used == 0
+}
+
+/// Appends the lowest bits of a value to bits that are packed; on want of memory none.
+pub fn append(
+    words: &mut Vec<u64>,
+    len: u64,
+    value: u64,
+    width: u32,
+) -> Result<(), AllocFailed<u64>>
+    requires packed { IsPacked words.old.items len }
+    requires some { 0 < width }
+    requires wide { width ≤ 64 }
+    requires fits { value < 2 ^ width }
+    ensures ok { OnOk result (words_number words.new.items
+        ≡ words_number words.old.items + value * 2 ^ len) }
+    ensures packed { OnOk result (IsPacked words.new.items (len + width)) }
+    ensures err { OnErr result (words.new.items ≡ words.old.items) }
+{
+    let shift = (len % 64) as u32;
+    if shift == 0 {
+        words.push(value)?;
+        return Ok(());
+    }
+    let last = (len / 64) as usize;
+    if shift + width <= 64 {
+        words[last] |= value << shift;
+        return Ok(());
+    }
+    words.push(value >> (64 - shift))?;
+    words[last] |= value << shift;
+    Ok(())
+}

@@ -1,0 +1,129 @@
+ghost use Rattle.std.specs.Prelude.{◌≡◌, ◌^◌, ◌≤◌, ◌++◌, ℕ, List, true, length, take, drop, IfOk, OnOk, OnErr};
+ghost use Rattle.std.specs.List.{slice_get};
+ghost use Rattle.elias_fano.specs.Spelling.{rises, ef_text, IsRising};
+ghost use Rattle.elias_fano.specs.Values.{values_of, AreValues};
+ghost use Rattle.elias_fano.specs.Reading.{Gives, list_at, IsSpelled};
+
+use crate::build::{high_part, last_value, low_part};
+use crate::fault::ReadErr;
+use crate::parts::{part_at, width_of};
+use crate::reading::list_of;
+use crate::writing::put_list;
+use bit_vector::{BitVec, NoMemory, Selector};
+use std::alloc::Global;
+use std::marker::Model;
+
+/// At most 2^36 numbers that don't fall, each to be read at once, in about two bits a number and the
+/// digits of the mean step (Elias 1974, Fano 1971).
+#[derive(Drop)]
+pub struct EliasFano {
+    count: u64,
+    last: u64,
+    width: u32,
+    low: BitVec,
+    high: Selector,
+}
+
+impl Model for EliasFano {
+    ghost use Rattle.std.specs.Prelude.{ℕ, List};
+    ghost use Rattle.elias_fano.specs.Values.{values_of, AreValues};
+
+    ghost Value = { List ℕ };
+
+    ghost view = { λ e. values_of e.width e.low e.high };
+
+    ghost invariant = { λ e. AreValues e.count e.last e.width e.low e.high };
+}
+
+impl EliasFano {
+    pub(crate) fn from_parts(
+        count: u64,
+        last: u64,
+        width: u32,
+        low: BitVec,
+        high: Selector,
+    ) -> EliasFano
+        requires { AreValues count last width low high }
+        ensures { result ≡ values_of width low high }
+    {
+        EliasFano {
+            count,
+            last,
+            width,
+            low,
+            high,
+        }
+    }
+
+    /// The list of these values.
+    pub fn build(alloc: Global, values: &[u64]) -> Result<EliasFano, NoMemory>
+        requires rising { rises 0 values.now ≡ true }
+        requires few { length values.now ≤ 2 ^ 36 }
+        ensures { IfOk result (λ e. e ≡ values.now) }
+    {
+        let count = values.len() as u64;
+        let last = last_value(values);
+        let width = width_of(count, last);
+        let low = low_part(alloc, values, width)?;
+        let high = Selector::new(alloc, high_part(alloc, values, width)?)?;
+        Ok(EliasFano::from_parts(count, last, width, low, high))
+    }
+
+    /// The value with an index.
+    pub fn get(&self, i: u64) -> Option<u64>
+        ensures { result ≡ slice_get self.now i }
+    {
+        if i >= self.count {
+            return None;
+        }
+        let (high, low) = part_at(&self.low, &self.high, self.width, self.count, self.last, i);
+        Some(high << self.width | low)
+    }
+
+    /// How many values there are.
+    pub fn len(&self) -> u64
+        ensures value { result ≡ length self.now }
+        ensures rising { IsRising self.now }
+    {
+        self.count
+    }
+
+    /// Appends the spelling; on want of memory nothing.
+    pub fn write(&self, out: &mut Vec<u8>) -> Result<(), NoMemory>
+        ensures ok { OnOk result (out.new.items ≡ out.old.items ++ ef_text self.now) }
+        ensures err { OnErr result (out.new.items ≡ out.old.items) }
+    {
+        let start = out.len();
+        let written = put_list(out, self.last, &self.low, self.high.bits());
+        if written.is_err() {
+            out.truncate(start);
+        }
+        written
+    }
+
+    /// The list of a count whose spelling stands at a place, and the place after it.
+    pub fn read(
+        alloc: Global,
+        bytes: &[u8],
+        at: usize,
+        count: u64,
+    ) -> Result<(EliasFano, usize), ReadErr>
+        requires within { at ≤ length bytes.now }
+        requires few { count ≤ 2 ^ 36 }
+        // What is read is a list of that count, and its spelling stands there.
+        ensures found { IfOk result (λ x. IsSpelled bytes.now at count x.0 x.1) }
+        // What is spelled there is read, unless memory runs out.
+        ensures only { (vs : List ℕ) (next : ℕ) → IsSpelled bytes.now at count vs next
+            → Gives {Y = List ℕ × ℕ} (λ x. (x.0, x.1)) result (Ok (vs, next)) }
+        // No other list of that count is spelled there, so no spelling begins another of the same count.
+        ensures one { (vs us : List ℕ) (m n : ℕ) → IsSpelled bytes.now at count vs m
+            → IsSpelled bytes.now at count us n → (vs ≡ us) × (m ≡ n) }
+        // Which fault it is: the first one.
+        ensures exact { Gives (λ x. (x.0, drop x.1 bytes.now)) result
+            (list_at at count (drop at bytes.now)) }
+    {
+        let rest = &bytes[at..];
+        let (list, rest) = list_of(alloc, at as u64, count, rest)?;
+        Ok((list, bytes.len() - rest.len()))
+    }
+}

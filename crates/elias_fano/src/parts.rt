@@ -1,0 +1,75 @@
+ghost use Rattle.std.specs.Prelude.{◌≡◌, ◌+◌, ◌-◌, ◌*◌, ◌/◌, ◌%◌, ◌^◌, ◌<◌, ◌≤◌, ◌↔◌, ◌⊎◌, length, slice_index, IsTrue};
+ghost use Rattle.bit_vector.specs.Bits.{ones, places};
+ghost use Rattle.elias_fano.specs.Spelling.{low_width, last_of, rises};
+ghost use Rattle.elias_fano.specs.Values.{values_of, AreParts};
+
+use bit_vector::{BitVec, Selector};
+
+/// How many low bits of each value stand apart.
+pub fn width_of(count: u64, last: u64) -> u32
+    ensures width { result ≡ low_width count last }
+    ensures most { result < 64 }
+    ensures few_high { 0 < count → last / 2 ^ result ≤ 2 * count }
+{
+    if count == 0 || last / count == 0 {
+        return 0;
+    }
+    (last / count).ilog2()
+}
+
+/// What stands above the low bits of a value, and its low bits.
+pub fn part_at(
+    low: &BitVec,
+    high: &Selector,
+    width: u32,
+    count: u64,
+    last: u64,
+    i: u64,
+) -> (u64, u64)
+    requires parts { AreParts count last width low.now high.now }
+    requires within { i < count }
+    ensures value { result.0 * 2 ^ width + result.1
+        ≡ slice_index (values_of width low.now high.now) i }
+    ensures low { result.1 < 2 ^ width }
+{
+    let place = high.select1(i).unwrap();
+    (place - i, low.get_bits(i * u64::from(width), width))
+}
+
+// Whether a value is below another: by what is above the low bits, and then by these.
+fn is_below(here: u64, low_here: u64, before: u64, low_before: u64) -> bool
+    ensures { IsTrue result ↔ (here < before) ⊎ ((here ≡ before) × (low_here < low_before)) }
+{
+    here < before || here == before && low_here < low_before
+}
+
+/// Whether no value is below the one before it.
+pub fn do_rise(low: &BitVec, high: &Selector, width: u32, count: u64, last: u64) -> bool
+    requires { AreParts count last width low.now high.now }
+    ensures { result ≡ rises 0 (values_of width low.now high.now) }
+{
+    let mut before = 0;
+    let mut low_before = 0;
+    for i in 0..count {
+        let (here, low_here) = part_at(low, high, width, count, last, i);
+        if is_below(here, low_here, before, low_before) {
+            return false;
+        }
+        before = here;
+        low_before = low_here;
+    }
+    true
+}
+
+/// Whether the last value is that number.
+pub fn do_end(low: &BitVec, high: &Selector, width: u32, count: u64, last: u64) -> bool
+    requires parts { AreParts count last width low.now high.now }
+    requires none { count ≡ 0 → last ≡ 0 }
+    ensures { IsTrue result ↔ last_of 0 (values_of width low.now high.now) ≡ last }
+{
+    if count == 0 {
+        return true;
+    }
+    let (here, low_here) = part_at(low, high, width, count, last, count - 1);
+    here == last >> width && low_here == last & ((1 << width) - 1)
+}

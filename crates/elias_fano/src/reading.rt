@@ -1,0 +1,137 @@
+ghost use Rattle.std.specs.Prelude.{◌≡◌, ◌+◌, ◌*◌, ◌/◌, ◌%◌, ◌^◌, ◌<◌, ◌≤◌, length, take, drop, IfOk};
+ghost use Rattle.std.specs.Int.{w64, from_le_bytes};
+ghost use Rattle.bit_vector.specs.Bits.{words_for};
+ghost use Rattle.elias_fano.specs.Spelling.{low_width, high_len};
+ghost use Rattle.elias_fano.specs.declared.fault.ReadErr.TheVariants.{Form};
+ghost use Rattle.elias_fano.specs.Reading.{Gives, fault, number_at, words_in, run_at, checked, parts_at, list_at};
+
+use crate::fault::{COUNT, FormFault, LAST, ORDER, PADDING, ReadErr, SHORT};
+use crate::list::EliasFano;
+use crate::parts::{do_end, do_rise, width_of};
+use bit_vector::{BitVec, NoMemory, Selector};
+use std::alloc::Global;
+
+fn form_fault(at: u64, kind: u8) -> ReadErr
+    ensures { result ≡ Form (fault at kind) }
+{
+    ReadErr::Form(FormFault { at, kind })
+}
+
+// The number that begins at a place.
+fn number_in(bytes: &[u8], at: usize) -> u64
+    requires { at + 8 ≤ length bytes.now }
+    ensures { result ≡ from_le_bytes w64 (take 8 (drop at bytes.now)) }
+{
+    let b = &bytes[at..at + 8];
+    u64::from_le_bytes([b[0], b[1], b[2], b[3], b[4], b[5], b[6], b[7]])
+}
+
+fn number_of(at: u64, bytes: &[u8]) -> Result<(u64, &[u8]), ReadErr>
+    ensures { Gives (λ x. (x.0, x.1.now)) result (number_at at bytes.now) }
+{
+    if bytes.len() < 8 {
+        return Err(form_fault(at, SHORT));
+    }
+    Ok((number_in(bytes, 0), &bytes[8..]))
+}
+
+// As many words as are asked for.
+fn words_of(alloc: Global, bytes: &[u8], count: usize) -> Result<Vec<u64>, NoMemory>
+    requires { 8 * count ≤ length bytes.now }
+    ensures { IfOk result (λ v. v.items ≡ words_in count bytes.now) }
+{
+    let mut words = Vec::with_capacity(alloc, count)?;
+    for i in 0..count {
+        words.push(number_in(bytes, 8 * i))?;
+    }
+    Ok(words)
+}
+
+fn run_of(alloc: Global, at: u64, len: u64, bytes: &[u8]) -> Result<(BitVec, &[u8]), ReadErr>
+    requires most { len ≤ 2 ^ 42 }
+    requires place { at ≤ 2 ^ 63 + 2 ^ 50 }
+    ensures { Gives (λ x. (x.0, x.1.now)) result (run_at at len bytes.now) }
+{
+    let count = len.div_ceil(64);
+    if (bytes.len() as u64) < 8 * count {
+        return Err(form_fault(at, SHORT));
+    }
+    let words = words_of(alloc, bytes, count as usize)?;
+    match BitVec::from_words(words, len) {
+        None => Err(form_fault(at + 8 * count - 8, PADDING)),
+        Some(bits) => Ok((bits, &bytes[8 * count as usize..])),
+    }
+}
+
+// The list of bits that are read: their ones, then the order, then the last value.
+fn check(
+    at: u64,
+    high_at: u64,
+    count: u64,
+    last: u64,
+    width: u32,
+    low: BitVec,
+    high: Selector,
+) -> Result<EliasFano, ReadErr>
+    requires few { count ≤ 2 ^ 36 }
+    requires none { count ≡ 0 → last ≡ 0 }
+    requires wide { width ≡ low_width count last }
+    requires low_len { length low ≡ count * width }
+    requires high_len_is { length high ≡ high_len count last width }
+    requires place { at ≤ 2 ^ 63 + 2 ^ 50 }
+    ensures { Gives (λ x. x) result (checked at high_at count last width low high) }
+{
+    let all = high.bits().len();
+    if high.rank1(all) != count {
+        return Err(form_fault(high_at, COUNT));
+    }
+    if !do_rise(&low, &high, width, count, last) {
+        return Err(form_fault(at + 8, ORDER));
+    }
+    if !do_end(&low, &high, width, count, last) {
+        return Err(form_fault(at, LAST));
+    }
+    Ok(EliasFano::from_parts(count, last, width, low, high))
+}
+
+// The low bits, the high bits and what they say.
+fn parts_of(
+    alloc: Global,
+    at: u64,
+    count: u64,
+    last: u64,
+    bytes: &[u8],
+) -> Result<(EliasFano, &[u8]), ReadErr>
+    requires few { count ≤ 2 ^ 36 }
+    requires none { count ≡ 0 → last ≡ 0 }
+    requires place { at ≤ 2 ^ 63 }
+    ensures { Gives (λ x. (x.0, x.1.now)) result
+        (parts_at at count last (low_width count last) bytes.now) }
+{
+    let width = width_of(count, last);
+    let low_len = count * u64::from(width);
+    let high_at = at + 8 + 8 * low_len.div_ceil(64);
+    let (low, rest) = run_of(alloc, at + 8, low_len, bytes)?;
+    let (high, rest) = run_of(alloc, high_at, count + (last >> width) + 1, rest)?;
+    let high = Selector::new(alloc, high)?;
+    let list = check(at, high_at, count, last, width, low, high)?;
+    Ok((list, rest))
+}
+
+/// The list of a count that bytes begin with, where their place is known, and the bytes after it.
+pub fn list_of(
+    alloc: Global,
+    at: u64,
+    count: u64,
+    bytes: &[u8],
+) -> Result<(EliasFano, &[u8]), ReadErr>
+    requires few { count ≤ 2 ^ 36 }
+    requires place { at ≤ 2 ^ 63 }
+    ensures { Gives (λ x. (x.0, x.1.now)) result (list_at at count bytes.now) }
+{
+    let (last, rest) = number_of(at, bytes)?;
+    if count == 0 && last != 0 {
+        return Err(form_fault(at, LAST));
+    }
+    parts_of(alloc, at, count, last, rest)
+}

@@ -1,0 +1,28 @@
+ghost use Rattle.std.specs.Prelude.{◌≡◌, ◌++◌, length, take, OnOk};
+ghost use Rattle.std.specs.List.{flat_map};
+ghost use Rattle.elias_fano.specs.Spelling.{number, run};
+
+use bit_vector::{BitVec, NoMemory};
+
+// Appends numbers.
+fn put_numbers(out: &mut Vec<u8>, numbers: &[u64]) -> Result<(), NoMemory>
+    ensures ok { OnOk result (out.new.items ≡ out.old.items ++ flat_map number numbers.now) }
+    ensures kept { take (length out.old.items) out.new.items ≡ out.old.items }
+{
+    for n in numbers {
+        out.extend_from_slice(&n.to_le_bytes())?;
+    }
+    Ok(())
+}
+
+/// Appends the last value, the low bits and the high bits; on want of memory a part of them.
+pub fn put_list(out: &mut Vec<u8>, last: u64, low: &BitVec, high: &BitVec) -> Result<(), NoMemory>
+    ensures ok { OnOk result
+        (out.new.items ≡ out.old.items ++ (number last ++ run low.now ++ run high.now)) }
+    ensures kept { take (length out.old.items) out.new.items ≡ out.old.items }
+{
+    put_numbers(out, &[last])?;
+    put_numbers(out, low.words())?;
+    put_numbers(out, high.words())?;
+    Ok(())
+}

@@ -1,0 +1,114 @@
+// Reads the keys of a file.
+ghost use Rattle.std.specs.Prelude.{◌≡◌, ◌≤◌, ℕ, Some, None, length, take, IfOk, IsErrOf, IsTrue};
+ghost use Rattle.pth_outside.specs.Files.{Rose, OfFile, contents};
+ghost use Rattle.pth_outside.specs.Keys.{keys_of, first_too_long, AreTooMany};
+
+use crate::{Files, KeyList, Line, LineErr, LineReader, NoMemory};
+use std::alloc::Global;
+
+/// Why there is no list of keys.
+#[derive(Clone, Copy, Debug, PartialEq, Eq)]
+pub enum KeysErr {
+    /// The file is missing, or the outside failed.
+    Fault,
+    /// The line with this number, counted from 1, is the first that has more than 65,535 bytes.
+    TooLong { line: u64 },
+    /// The file has more lines than the caller takes.
+    TooMany,
+    NoMemory,
+}
+
+/// The keys of a file that has at most `most` lines.
+pub fn read_keys<F: Files>(
+    alloc: Global,
+    files: &mut F,
+    name: &str,
+    most: u64,
+) -> Result<KeyList, KeysErr>
+    requires { most ≤ 67108864 }
+    ensures ok { IfOk result (λ keys.
+        OfFile (F.told files.old) name.now (λ bytes. keys ≡ keys_of bytes)) }
+    ensures bound { IfOk result (λ keys. length keys ≤ most) }
+    ensures too_long { (line : ℕ) → IsErrOf result (KeysErr.TooLong line) →
+        OfFile (F.told files.old) name.now (λ bytes.
+        first_too_long (take most (keys_of bytes)) ≡ Some line) }
+    ensures too_many { IsErrOf result KeysErr.TooMany →
+        OfFile (F.told files.old) name.now (λ bytes. AreTooMany most (keys_of bytes)) }
+    ensures fault { IsErrOf result KeysErr.Fault →
+        Rose (F.faults files.old) (F.faults files.new) }
+    ensures missing { IsErrOf result KeysErr.Fault → IsTrue (F.sure files.old) →
+        contents (F.told files.old) name.now ≡ None }
+
+    // No file changes, whatever the answer.
+    ensures told { F.told files.new ≡ F.told files.old }
+    ensures sure { F.sure files.new ≡ F.sure files.old }
+    ensures later { F.faults files.old ≤ F.faults files.new }
+{
+    let mut reader = match LineReader::new(alloc, name) {
+        Ok(reader) => reader,
+        Err(NoMemory) => return Err(KeysErr::NoMemory),
+    };
+    let mut keys = KeyList::new(alloc);
+    let mut line = Vec::new(alloc);
+    loop {
+        let full = keys.len() == most;
+        match reader.next_line(files, &mut line) {
+            Ok(Line::End) => return Ok(keys),
+            Ok(Line::Got) => {
+                if full {
+                    return Err(KeysErr::TooMany);
+                }
+                if let Err(NoMemory) = keys.push(line.as_slice()) {
+                    return Err(KeysErr::NoMemory);
+                }
+            }
+            Err(LineErr::TooLong { line }) => {
+                if full {
+                    return Err(KeysErr::TooMany);
+                }
+                return Err(KeysErr::TooLong { line });
+            }
+            Err(LineErr::Fault) => return Err(KeysErr::Fault),
+            Err(LineErr::NoMemory) => return Err(KeysErr::NoMemory),
+        }
+    }
+}
+
+#[cfg(test)]
+mod tests {
+    use super::*;
+    use crate::MemFiles;
+    use crate::whole::zeros;
+    use std::test::Fail;
+
+    #[test]
+    fn keys_are_cut_at_line_feeds(rt: HostRuntime) -> Result<(), Fail> {
+        let alloc = rt.alloc();
+        for (text, most, want) in [
+            (b"".as_slice(), 3, Ok(0)),
+            (b"x\n\ny", 3, Ok(3)),
+            (b"\n", 3, Ok(1)),
+            (b"a\nb\nc\nd\n", 3, Err(KeysErr::TooMany)),
+            (b"a\nb\n", 1, Err(KeysErr::TooMany)),
+        ] {
+            let mut files = MemFiles::new(alloc, Vec::new(alloc), 2);
+            files.put("f", text).ok().ok_or("memory")?;
+            let read = read_keys(alloc, &mut files, "f", most);
+            assert_eq!(rt; read.map(|keys| keys.len()), want, "{text:?}");
+        }
+        Ok(())
+    }
+
+    #[test]
+    fn a_key_has_at_most_65535_bytes(rt: HostRuntime) -> Result<(), Fail> {
+        let alloc = rt.alloc();
+        for (len, want) in [(65535, Ok(1)), (65536, Err(KeysErr::TooLong { line: 1 }))] {
+            let text = zeros(alloc, len)?;
+            let mut files = MemFiles::new(alloc, Vec::new(alloc), 70000);
+            files.put("f", text.as_slice()).ok().ok_or("memory")?;
+            let read = read_keys(alloc, &mut files, "f", 2);
+            assert_eq!(rt; read.map(|keys| keys.len()), want, "{len} bytes");
+        }
+        Ok(())
+    }
+}
