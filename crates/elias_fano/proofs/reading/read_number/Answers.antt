@@ -1,5 +1,5 @@
 use Rattle.elias_fano.proofs.FormLemmas.{number_at-short, number_at-ok}
-use Rattle.elias_fano.proofs.reading.number_of.Goals as goal
+use Rattle.elias_fano.proofs.reading.read_number.Goals as goal
 
 pub returns-then-bytes-lt8 : goal.returns-then-bytes-lt8
 returns-then-bytes-lt8 c = rw c.form_fault.ensures (number_at-short c.args.at c.args.bytes.now c.if-bytes-lt8.true)

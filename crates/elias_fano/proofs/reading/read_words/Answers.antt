@@ -1,7 +1,7 @@
 use Rattle.std.proofs.Common.{◌≡◌, ℕ, ◌++◌, List, [], ◌∷◌, sym, ap, ◌∙◌}
 use Rattle.elias_fano.specs.Reading.{words_in}
 use Rattle.elias_fano.proofs.FormLemmas.{words_in-none, words_in-more}
-use Rattle.elias_fano.proofs.reading.words_of.Goals as goal
+use Rattle.elias_fano.proofs.reading.read_words.Goals as goal
 
 pub loop-i-init : goal.loop-i-init
 loop-i-init c = c.in_ok-words.ensures.items ∙ words_in-none c.args.bytes.now

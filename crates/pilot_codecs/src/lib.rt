@@ -1,0 +1,12 @@
+//! Lists of small numbers under four codes and their pairs, with one spelling for each list.
+#![tactic(auto)]
+
+mod code;
+mod compact;
+
+pub use bit_vector::NoMemory;
+pub use code::{Code, Encoding};
+pub use elias_fano::{FormFault, ReadErr};
+
+// How many values a group has.
+const GROUP: u64 = 256;
