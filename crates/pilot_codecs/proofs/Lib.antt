@@ -1,2 +1,5 @@
 pub mod FieldLemmas
 pub mod CompactLemmas
+pub mod CompactLaws
+pub mod GroupLemmas
+pub mod GroupLaws

@@ -1,5 +1,6 @@
 -- Reading a spelling from the left, with the first fault that is met.
 use Rattle.std.specs.Prelude.{ℕ, zero, suc, ◌≡◌, ◌+◌, ◌-◌, ◌*◌, ◌/◌, ◌^◌, ◌<◌, ◌≤◌, min, Bool, true, false, not, ◌&&◌, ◌||◌, List, [], ◌∷◌, ◌++◌, length, map, take, drop, slice_index, Option, Some, None, Result, Ok, Err, nat_lt, ◌==◌, if◌then◌else◌}
+use Rattle.std.specs.List.{flat_map}
 use Rattle.bit_vector.specs.Bits.{bits_of, number_of, words_number, words_for}
 use Rattle.pthash.specs.Sizes.{front_count_of}
 use Rattle.elias_fano.specs.declared.fault.FormFault.{FormFault}
@@ -41,3 +42,8 @@ groups_at (suc n) at count bytes = do
   first ← compact_at at (min GROUP count) bytes
   others ← groups_at n (at + (length bytes - length first.1)) (count - GROUP) first.1
   Ok (first.0 ∷ others.0, others.1)
+
+unfoldable pub parted_at : ℕ → ℕ → List ℕ → Result (List ℕ × List ℕ) FormFault
+parted_at at count bytes = do
+  groups ← groups_at (groups_for count) at count bytes
+  Ok (flat_map (λ g. g) groups.0, groups.1)

@@ -3,6 +3,8 @@
 
 mod code;
 mod compact;
+mod groups;
+mod parted;
 
 pub use bit_vector::NoMemory;
 pub use code::{Code, Encoding};
