@@ -2,7 +2,7 @@
 use Rattle.std.specs.Prelude.{ℕ, zero, suc, ◌≡◌, ◌+◌, ◌-◌, ◌*◌, ◌/◌, ◌^◌, ◌<◌, ◌≤◌, max, Bool, true, List, [], ◌∷◌, ◌++◌, length, map, take, drop, Option, Some, None, ◌==◌, nat_lt, if◌then◌else◌}
 use Rattle.std.specs.List.{flat_map}
 use Rattle.pthash.specs.Sizes.{front_count_of}
-use Rattle.elias_fano.specs.Spelling.{number, run, log2_within, low_bits, ef_text}
+use Rattle.elias_fano.specs.Spelling.{number, run, log2_within, low_bits, is_among, last_of, ef_text}
 use Rattle.pilot_codecs.specs.declared.code.Code.{Code}
 use Rattle.pilot_codecs.specs.declared.code.Code.TheVariants as codes
 use Rattle.pilot_codecs.specs.declared.code.Encoding.{Encoding}
@@ -34,15 +34,14 @@ groups_of (suc n) vs = take GROUP vs ∷ groups_of n (drop GROUP vs)
 unfoldable pub parted_text : List ℕ → List ℕ
 parted_text vs = flat_map compact_text (groups_of (groups_for (length vs)) vs)
 
--- a rising list with one value more, unless it is there
-unfoldable pub put_in : ℕ → List ℕ → List ℕ
-put_in v [] = v ∷ []
-put_in v (d ∷ ds) = if nat_lt v d then v ∷ d ∷ ds else (if v == d then d ∷ ds else d ∷ put_in v ds)
+-- the numbers from a first one on, so many of them, that are among the values
+unfoldable pub present_from : ℕ → ℕ → List ℕ → List ℕ
+present_from at zero vs = []
+present_from at (suc n) vs = if is_among at vs then at ∷ present_from (at + 1) n vs else present_from (at + 1) n vs
 
 -- the values without repeats, rising
-unfoldable pub distinct : List ℕ → List ℕ
-distinct [] = []
-distinct (v ∷ vs) = put_in v (distinct vs)
+abbrev pub distinct : List ℕ → List ℕ
+distinct vs = present_from 0 (greatest vs + 1) vs
 
 -- the index of a value
 unfoldable pub index_in : List ℕ → ℕ → ℕ
@@ -76,7 +75,7 @@ pair_text enc vs = split_text enc.front enc.back vs
 
 -- what has a spelling: 64-bit numbers, and for sums also these; at most 2 ^ 30 of them
 abbrev pub Fits : Code → List ℕ → Type 0
-Fits codes.EliasFano vs = (Rattle.elias_fano.specs.Spelling.last_of 0 (sums_from 0 vs) < 2 ^ 64) × (length vs ≤ 2 ^ 30)
+Fits codes.EliasFano vs = (last_of 0 (sums_from 0 vs) < 2 ^ 64) × (length vs ≤ 2 ^ 30)
 Fits codes.Compact vs = (greatest vs < 2 ^ 64) × (length vs ≤ 2 ^ 30)
 Fits codes.Parted vs = (greatest vs < 2 ^ 64) × (length vs ≤ 2 ^ 30)
 Fits codes.Dict vs = (greatest vs < 2 ^ 64) × (length vs ≤ 2 ^ 30)

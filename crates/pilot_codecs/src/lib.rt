@@ -3,6 +3,8 @@
 
 mod code;
 mod compact;
+mod dict;
+mod entries;
 mod groups;
 mod parted;
 
