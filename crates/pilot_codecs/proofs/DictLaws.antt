@@ -35,7 +35,7 @@ among_at (y ∷ ys) (suc i) lt =
 pub among_by : (x : ℕ) (xs : List ℕ) (i : ℕ) → i < length xs → get_or xs i 0 ≡ x → is_among x xs ≡ true
 among_by x xs i lt e = ap (λ (y : ℕ). is_among y xs) (sym e) ∙ among_at xs i lt
 
-greatest_within : (m : ℕ) (xs : List ℕ) → ((i : ℕ) → i < length xs → get_or xs i 0 ≤ m) → greatest xs ≤ m
+pub greatest_within : (m : ℕ) (xs : List ℕ) → ((i : ℕ) → i < length xs → get_or xs i 0 ≤ m) → greatest xs ≤ m
 unfolding greatest
 greatest_within m [] h = omega arith
 greatest_within m (x ∷ xs) h = omega (arith, h 0 (omega arith), greatest_within m xs (λ i lt. h (suc i) (omega arith)))
@@ -74,7 +74,7 @@ unfolding rise_len
 rise_len-up least [] h = refl
 rise_len-up least (d ∷ ds) h = omega (arith, rise_from-up d ds h.1)
 
-up_at : (least : ℕ) (ds : List ℕ) (i : ℕ) → Up least ds → i < length ds → least ≤ get_or ds i 0
+pub up_at : (least : ℕ) (ds : List ℕ) (i : ℕ) → Up least ds → i < length ds → least ≤ get_or ds i 0
 up_at least [] i h lt = absurd (omega arith)
 up_at least (d ∷ ds) zero h lt = h.0
 up_at least (d ∷ ds) (suc i) h lt = omega (arith, h.0, up_at (suc d) ds i h.1 (omega arith))

@@ -84,7 +84,7 @@ unfolding are_used
 are_used-from zero ps h = refl
 are_used-from (suc n) ps h = and_from (is_among n ps) (are_used n ps) (h n (omega arith)) (are_used-from n ps (λ d lt. h d (omega arith)))
 
-is_among-push : (n : ℕ) (ps : List ℕ) (p : ℕ) → is_among n (ps ++ p ∷ []) ≡ (is_among n ps || eqb n p)
+pub is_among-push : (n : ℕ) (ps : List ℕ) (p : ℕ) → is_among n (ps ++ p ∷ []) ≡ (is_among n ps || eqb n p)
 unfolding is_among
 is_among-push n [] p = elim (cases_Bool (eqb n p)) [ inl t ↦ rw t refl | inr f ↦ rw f refl ]
 is_among-push n (q ∷ ps) p = elim (cases_Bool (eqb n q)) [ inl t ↦ rw t refl | inr f ↦ rw f (is_among-push n ps p) ]

@@ -6,3 +6,4 @@ pub mod GroupLaws
 pub mod DictLemmas
 pub mod DictLaws
 pub mod DictForms
+pub mod SortLemmas

@@ -9,6 +9,7 @@ use std::alloc::Global;
 use std::marker::Model;
 
 use crate::compact::Compact;
+use crate::distinct::{distinct_of, indexes_of};
 use crate::entries::{are_all_below, are_all_used, rise};
 use bit_vector::NoMemory;
 use elias_fano::{COUNT, FormFault, ORDER, ReadErr, SHORT, put_numbers, read_number, read_words};
@@ -33,6 +34,17 @@ impl Model for Dict {
 }
 
 impl Dict {
+    /// The list of these values.
+    pub fn encode(alloc: Global, values: &[u64]) -> Result<Dict, NoMemory>
+        requires { length values.now ≤ 2 ^ 30 }
+        ensures { IfOk result (λ d. d ≡ values.now) }
+    {
+        let entries = distinct_of(alloc, values)?;
+        let indexes = indexes_of(alloc, &entries, values)?;
+        let places = Compact::encode(alloc, &indexes)?;
+        Ok(Dict { entries, places })
+    }
+
     pub fn len(&self) -> u64
         ensures { result ≡ length self.now }
     {
@@ -63,7 +75,10 @@ impl Dict {
         ensures { Gives (λ x. (x.0, x.1.now)) result (dict_at at count bytes.now) }
     {
         let (size, rest) = read_number(at, bytes)?;
-        if size > count || size == 0 && count != 0 {
+        if size > count {
+            return Err(ReadErr::Form(FormFault { at, kind: COUNT }));
+        }
+        if size == 0 && count != 0 {
             return Err(ReadErr::Form(FormFault { at, kind: COUNT }));
         }
         entries_of(alloc, at, count, size, rest)

@@ -4,6 +4,7 @@
 mod code;
 mod compact;
 mod dict;
+mod distinct;
 mod entries;
 mod groups;
 mod parted;

@@ -18,7 +18,10 @@ returns-in_err-size c =
     rw (p.1, p.2) (dict_at-number c.in_err-size.field-0.0 c.args.at c.args.count c.args.bytes.now c.in_err-size.ensures)
 
 pub returns-then-size-count : goal.returns-then-size-count
-returns-then-size-count c = ?
+returns-then-size-count c = dict_at-size c.args.at c.args.count c.in_ok-size.size c.args.bytes.now c.in_ok-size.rest.now c.in_ok-size.ensures (inl c.if-size-count.true)
+
+pub returns-then-count-ne0 : goal.returns-then-count-ne0
+returns-then-count-ne0 c = dict_at-size c.args.at c.args.count c.in_ok-size.size c.args.bytes.now c.in_ok-size.rest.now c.in_ok-size.ensures (inr (c.if-size-eq0.true, c.if-count-ne0.true))
 
 pub returns : goal.returns
-returns c = ?
+returns c = rw (dict_at-entries c.args.at c.args.count c.in_ok-size.size c.args.bytes.now c.in_ok-size.rest.now c.in_ok-size.ensures c.if-size-count.false c.else-size-eq0.either) c.entries_of.ensures
