@@ -120,7 +120,7 @@ fn parts_of(
 }
 
 /// The list of a count that bytes begin with, where their place is known, and the bytes after it.
-pub fn list_of(
+pub fn read_list(
     alloc: Global,
     at: u64,
     count: u64,

@@ -7,3 +7,5 @@ pub mod DictLemmas
 pub mod DictLaws
 pub mod DictForms
 pub mod SortLemmas
+pub mod DictReads
+pub mod SumLemmas

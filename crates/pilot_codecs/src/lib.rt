@@ -7,7 +7,9 @@ mod dict;
 mod distinct;
 mod entries;
 mod groups;
+mod part;
 mod parted;
+mod sums;
 
 pub use bit_vector::NoMemory;
 pub use code::{Code, Encoding};

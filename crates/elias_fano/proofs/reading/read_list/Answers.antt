@@ -1,6 +1,6 @@
 use Rattle.std.proofs.lemmas.Result.{err_from_is_err_and}
 use Rattle.elias_fano.proofs.FormLemmas.{list_at-number, list_at-last, list_at-parts}
-use Rattle.elias_fano.proofs.reading.list_of.Goals as goal
+use Rattle.elias_fano.proofs.reading.read_list.Goals as goal
 
 pub returns-in_err-last : goal.returns-in_err-last
 returns-in_err-last c =

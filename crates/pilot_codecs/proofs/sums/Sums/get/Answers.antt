@@ -1,0 +1,28 @@
+use Rattle.std.proofs.Common.{◌≡◌, ℕ, ◌+◌, ◌-◌, ◌*◌, ◌/◌, ◌%◌, ◌^◌, ◌<◌, ◌≤◌, ◌++◌, List, [], ◌∷◌, Bool, true, false, length, take, drop, get_or, Some, None, Ok, Err, refl, sym, ap, ◌∙◌, subst, append_assoc, inl, inr, arith}
+use Rattle.std.specs.List.{slice_get}
+use Rattle.elias_fano.specs.Spelling.{rises, last_of, ef_text, IsRising}
+use Rattle.elias_fano.specs.Reading.{Gives, Fails, list_at}
+use Rattle.elias_fano.proofs.ValueLemmas.{slice_get-some, slice_get-is, slice_get-none}
+use Rattle.pilot_codecs.specs.Spelling.{greatest, sums_from}
+use Rattle.pilot_codecs.specs.Reading.{steps_from, sums_at}
+use Rattle.pilot_codecs.proofs.FieldLemmas.{get_or-le-greatest}
+use Rattle.pilot_codecs.proofs.SumLemmas.{total, total-more, sums_from-more, sums_from-nil, length-sums_from, rises-sums_from, steps_from-sums_from, sums_from-steps_from, length-steps_from, slice_get-steps_first, slice_get-steps, sums_at-fails, sums_at-ok}
+use Rattle.pilot_codecs.proofs.sums.Sums.get.Goals as goal
+
+pub returns-then-i-len : goal.returns-then-i-len
+returns-then-i-len c = ?
+
+pub returns-then-i-eq0 : goal.returns-then-i-eq0
+returns-then-i-eq0 c = ?
+
+pub unwrap-sum-requires : goal.unwrap-sum-requires
+unwrap-sum-requires c = ?
+
+pub unwrap-before-requires : goal.unwrap-before-requires
+unwrap-before-requires c = ?
+
+pub overflow_sub-result : goal.overflow_sub-result
+overflow_sub-result c = ?
+
+pub returns : goal.returns
+returns c = ?

@@ -1,0 +1,28 @@
+use Rattle.std.proofs.Common.{◌≡◌, ℕ, ◌+◌, ◌-◌, ◌*◌, ◌/◌, ◌%◌, ◌^◌, ◌<◌, ◌≤◌, ◌++◌, List, [], ◌∷◌, Bool, true, false, length, take, drop, get_or, Some, None, Ok, Err, refl, sym, ap, ◌∙◌, subst, append_assoc, inl, inr, arith}
+use Rattle.std.specs.List.{slice_get}
+use Rattle.elias_fano.specs.Spelling.{rises, last_of, ef_text, IsRising}
+use Rattle.elias_fano.specs.Reading.{Gives, Fails, list_at}
+use Rattle.elias_fano.proofs.ValueLemmas.{slice_get-some, slice_get-is, slice_get-none}
+use Rattle.pilot_codecs.specs.Spelling.{greatest, sums_from}
+use Rattle.pilot_codecs.specs.Reading.{steps_from, sums_at}
+use Rattle.pilot_codecs.proofs.FieldLemmas.{get_or-le-greatest}
+use Rattle.pilot_codecs.proofs.SumLemmas.{total, total-more, sums_from-more, sums_from-nil, length-sums_from, rises-sums_from, steps_from-sums_from, sums_from-steps_from, length-steps_from, slice_get-steps_first, slice_get-steps, sums_at-fails, sums_at-ok}
+use Rattle.pilot_codecs.proofs.sums.sums_of.Goals as goal
+
+pub loop-value-init : goal.loop-value-init
+loop-value-init c = record { so_far = c.in_ok-sums.ensures.items ∙ sums_from-nil; total_is = refl; most = omega arith }
+
+pub overflow_add-total : goal.overflow_add-total
+overflow_add-total c = omega (arith, c.loop-value.invariant.most, c.loop-value-test.true, c.requires.few, c.requires.small, get_or-le-greatest c.args.values.now c.loop-value.value-index)
+
+pub loop-value-preserved : goal.loop-value-preserved
+loop-value-preserved c =
+    let vs = c.args.values.now in
+    let i = c.loop-value.value-index in
+    let inv = c.loop-value.invariant in
+    let t = inv.total_is in
+    record {
+      so_far = c.in_ok-push.ensures.items ∙ ap (λ (ss : List ℕ). ss ++ (c.loop-value.total + get_or vs i 0) ∷ []) inv.so_far ∙ ap (λ (x : ℕ). sums_from 0 (take i vs) ++ (x + get_or vs i 0) ∷ []) t ∙ sym (sums_from-more vs i c.loop-value-test.true);
+      total_is = omega (arith, t, total-more vs i c.loop-value-test.true);
+      most = omega (arith, inv.most, c.requires.small, get_or-le-greatest vs i);
+    }
