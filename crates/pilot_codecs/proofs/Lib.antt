@@ -9,3 +9,4 @@ pub mod DictForms
 pub mod SortLemmas
 pub mod DictReads
 pub mod SumLemmas
+pub mod CodeLaws

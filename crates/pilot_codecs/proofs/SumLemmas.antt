@@ -103,3 +103,9 @@ sums_again at vs rest small few =
     let n = length-sums_from 0 vs in
     let r : IsRising ss = record { rising = rises-sums_from 0 vs; fits = small; few = omega (arith, n, few) } in
     ap (λ (k : ℕ). sums_at at k (ef_text ss ++ rest)) (sym n) ∙ sums_at-ok at (length ss) (ef_text ss ++ rest) ss rest (list_again at ss rest r) ∙ ap (λ (xs : List ℕ). Ok (xs, rest)) (steps_from-sums_from 0 vs)
+
+pub step_up : (b : ℕ) (ss : List ℕ) (i s t : ℕ) → rises b ss ≡ true → slice_get ss i ≡ Some s → slice_get ss (suc i) ≡ Some t → s ≤ t
+step_up b [] i s t h e f = absurd cc
+step_up b (x ∷ []) i s t h e f = absurd cc
+step_up b (x ∷ y ∷ ss) zero s t h e f = let p : x ≡ s = cc in let q : y ≡ t = cc in omega (arith, p, q, (rises-parts x y ss (rises-parts b x (y ∷ ss) h).1).0)
+step_up b (x ∷ y ∷ ss) (suc i) s t h e f = step_up x (y ∷ ss) i s t (rises-parts b x (y ∷ ss) h).1 e f

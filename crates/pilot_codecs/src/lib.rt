@@ -9,11 +9,13 @@ mod entries;
 mod groups;
 mod part;
 mod parted;
+mod pilots;
 mod sums;
 
 pub use bit_vector::NoMemory;
 pub use code::{Code, Encoding};
 pub use elias_fano::{FormFault, ReadErr};
+pub use pilots::Pilots;
 
 // How many values a group has.
 const GROUP: u64 = 256;

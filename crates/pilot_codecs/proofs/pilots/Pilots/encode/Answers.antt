@@ -1,0 +1,24 @@
+use Rattle.std.proofs.Common.{◌≡◌, ℕ, ◌+◌, ◌-◌, ◌*◌, ◌/◌, ◌%◌, ◌^◌, ◌<◌, ◌≤◌, ◌++◌, List, [], ◌∷◌, Bool, true, false, length, take, drop, get_or, Some, None, Ok, Err, refl, sym, ap, ◌∙◌, subst, append_assoc, inl, inr, arith}
+use Rattle.pthash.specs.Sizes.{front_count_of}
+use Rattle.elias_fano.specs.Reading.{Gives, Fails}
+use Rattle.elias_fano.proofs.FormLemmas.{IsBytes-drop}
+use Rattle.pilot_codecs.specs.Spelling.{greatest}
+use Rattle.pilot_codecs.specs.Reading.{code_at}
+use Rattle.pilot_codecs.specs.Values.{values_of, code_of}
+use Rattle.pilot_codecs.specs.Encoded.{pair_at, IsSplit, IsSpelled}
+use Rattle.pilot_codecs.proofs.CodeLaws.{code_takes, split_takes, spelled_at, spelled_again, spelled_same, spelled_once}
+use Rattle.pilot_codecs.proofs.DictLaws.{greatest_within}
+use Rattle.pilot_codecs.proofs.GroupLaws.{greatest-take, greatest-drop}
+use Rattle.pilot_codecs.proofs.pilots.Pilots.encode.Goals as goal
+
+all_small : (vs : List ℕ) → ((i : ℕ) → get_or vs i 0 < 2 ^ 32) → greatest vs < 2 ^ 32
+all_small vs h = omega (arith, greatest_within (2 ^ 32 - 1) vs (λ i lt. omega (arith, h i)))
+
+pub encode_part-requires-clause-small : goal.encode_part-requires-clause-small
+encode_part-requires-clause-small c = all_small c.args.values.now c.requires.small
+
+pub encode_part-requires-in-Some-clause-small : goal.encode_part-requires-in-Some-clause-small
+encode_part-requires-in-Some-clause-small c = ?
+
+pub encode_part-requires-in-Some-2-clause-small : goal.encode_part-requires-in-Some-2-clause-small
+encode_part-requires-in-Some-2-clause-small c = ?
