@@ -1,18 +1,14 @@
 -- What is read under a code or a pair is spelled so, and what is spelled is read again, whatever follows.
-use Rattle.std.proofs.Common.{◌≡◌, ℕ, zero, suc, ◌+◌, ◌*◌, ◌-◌, ◌/◌, ◌^◌, ◌<◌, ◌≤◌, List, [], ◌∷◌, ◌++◌, length, get_or, take, drop, Option, Some, None, Result, Ok, Err, refl, sym, ap, ◌∙◌, subst, append_assoc, arith}
+use Rattle.std.proofs.Common.{◌≡◌, ℕ, ◌+◌, ◌-◌, ◌^◌, ◌<◌, ◌≤◌, List, ◌++◌, length, get_or, take, drop, Option, Some, None, Ok, refl, sym, ap, ◌∙◌, subst, append_assoc, arith}
 use Rattle.std.proofs.lemmas.List.{take_at, drop_at, drop-drop, length-append, length-drop, length-take, take-append-drop}
 use Rattle.pthash.specs.Sizes.{front_count_of}
-use Rattle.elias_fano.specs.declared.fault.FormFault.{FormFault}
-use Rattle.elias_fano.specs.declared.fault.ReadErr.{ReadErr}
-use Rattle.elias_fano.specs.declared.fault.ReadErr.TheVariants as errors
-use Rattle.elias_fano.specs.Spelling.{last_of}
-use Rattle.elias_fano.specs.Reading.{◌>>=◌, Fails}
+use Rattle.elias_fano.specs.Reading.{◌>>=◌}
 use Rattle.elias_fano.proofs.FormLemmas.{IsBytes}
 use Rattle.elias_fano.proofs.LawLemmas.{bind_ok, ok_is, done}
 use Rattle.pilot_codecs.specs.declared.code.Code.{Code}
 use Rattle.pilot_codecs.specs.declared.code.Code.TheVariants as codes
 use Rattle.pilot_codecs.specs.declared.code.Encoding.{Encoding}
-use Rattle.pilot_codecs.specs.Spelling.{greatest, sums_from, code_text, split_text, pair_text, Fits}
+use Rattle.pilot_codecs.specs.Spelling.{code_text, split_text, pair_text, Fits}
 use Rattle.pilot_codecs.specs.Reading.{code_at, split_at}
 use Rattle.pilot_codecs.specs.Encoded.{FitSplit, pair_at, IsSpelled}
 use Rattle.pilot_codecs.proofs.CompactLaws.{compact_takes, compact_again}
@@ -68,10 +64,10 @@ split_takes front (Some back) at count bytes vs rest fits few e =
     let first : take (front_count_of (length all)) all ≡ a.0.0 = ap (λ (k : ℕ). take k all) cut ∙ take_at a.0.0 b.0.0 (length a.0.0) refl in
     let second : drop (front_count_of (length all)) all ≡ b.0.0 = ap (λ (k : ℕ). drop k all) cut ∙ drop_at a.0.0 b.0.0 (length a.0.0) refl in
     let text : bytes ≡ (code_text front (take (front_count_of (length all)) all) ++ code_text back (drop (front_count_of (length all)) all)) ++ b.0.1 =
-      t.0.parts ∙ ap (λ (x : List ℕ). code_text front a.0.0 ++ x) u.0.parts ∙ sym (append_assoc (code_text front a.0.0) (code_text back b.0.0) b.0.1)
-      ∙ ap (λ (x : List ℕ). (code_text front x ++ code_text back b.0.0) ++ b.0.1) (sym first) ∙ ap (λ (x : List ℕ). (code_text front (take (front_count_of (length all)) all) ++ code_text back x) ++ b.0.1) (sym second) in
+    t.0.parts ∙ ap (λ (x : List ℕ). code_text front a.0.0 ++ x) u.0.parts ∙ sym (append_assoc (code_text front a.0.0) (code_text back b.0.0) b.0.1)
+    ∙ ap (λ (x : List ℕ). (code_text front x ++ code_text back b.0.0) ++ b.0.1) (sym first) ∙ ap (λ (x : List ℕ). (code_text front (take (front_count_of (length all)) all) ++ code_text back x) ++ b.0.1) (sym second) in
     let made : IsTaken bytes (split_text front (Some back) all) count all b.0.1 × FitSplit front (Some back) all =
-      (record { parts = text; rest_fits = u.0.rest_fits; count_is = size }, (subst (λ (x : List ℕ). Fits front x) (sym first) t.1, subst (λ (x : List ℕ). Fits back x) (sym second) u.1)) in
+    (record { parts = text; rest_fits = u.0.rest_fits; count_is = size }, (subst (λ (x : List ℕ). Fits front x) (sym first) t.1, subst (λ (x : List ℕ). Fits back x) (sym second) u.1)) in
     subst (λ (p : List ℕ × List ℕ). IsTaken bytes (split_text front (Some back) p.0) count p.0 p.1 × FitSplit front (Some back) p.0) (ok_is {A = List ℕ × List ℕ} (all, b.0.1) (vs, rest) b.2) made
 
 pub split_again : (front : Code) (back : Option Code) (at : ℕ) (vs rest : List ℕ) → FitSplit front back vs → split_at front back at (length vs) (split_text front back vs ++ rest) ≡ Ok (vs, rest)
@@ -94,10 +90,9 @@ split_again front (Some back) at vs rest f =
 
 rest_place : (bytes text rest : List ℕ) (at : ℕ) → at ≤ length bytes → drop at bytes ≡ text ++ rest → (length bytes ≡ at + length text + length rest) × (rest ≡ drop (at + length text) bytes)
 rest_place bytes text rest at le e =
-    let n = ap length e in
-    (
+    let n = ap length e in (
       omega (arith, n, length-drop at bytes, length-append text rest),
-      sym (sym (drop-drop (length text) at bytes) ∙ ap (λ (t : List ℕ). drop (length text) t) e ∙ drop_at text rest (length text) refl)
+      sym (sym (drop-drop (length text) at bytes) ∙ ap (λ (t : List ℕ). drop (length text) t) e ∙ drop_at text rest (length text) refl),
     )
 
 pub spelled_at : (bytes : List ℕ) (at count : ℕ) (enc : Encoding) (vs rest : List ℕ) → at ≤ length bytes → IsTaken (drop at bytes) (pair_text enc vs) count vs rest × FitSplit enc.front enc.back vs

@@ -1,27 +1,25 @@
 -- Packed numbers that are read are spelled so, and what is spelled is read again, whatever follows.
-use Rattle.std.proofs.Common.{◌≡◌, ℕ, zero, suc, ◌+◌, ◌*◌, ◌-◌, ◌/◌, ◌%◌, ◌^◌, ◌<◌, ◌≤◌, max, Bool, true, false, cond, eqb, ltb, List, [], ◌∷◌, ◌++◌, length, get_or, take, drop, Result, Ok, Err, refl, sym, ap, ◌∙◌, subst, append_assoc, inl, inr, arith}
+use Rattle.std.proofs.Common.{◌≡◌, ℕ, zero, suc, ◌+◌, ◌*◌, ◌-◌, ◌^◌, ◌<◌, ◌≤◌, Bool, cond, eqb, ltb, List, ◌++◌, length, take, drop, Ok, Err, sym, ap, ◌∙◌, subst, append_assoc, arith}
 use Rattle.std.specs.Prelude.{not, ◌||◌}
 use Rattle.std.specs.List.{flat_map}
 use Rattle.std.proofs.Math.Nat.{pow-le-pow_right}
-use Rattle.std.proofs.lemmas.Bool.{cases_lt, cases_eq, eqb-true, ltb-true, ltb-false, not-false, or_parts}
+use Rattle.std.proofs.lemmas.Bool.{eqb-true, ltb-true, ltb-false, not-false, or_parts}
 use Rattle.std.proofs.lemmas.Nat.{pow_pos}
-use Rattle.std.proofs.lemmas.List.{take_rest, drop_at, length-append, length-take}
+use Rattle.std.proofs.lemmas.List.{take_rest, drop_at, length-append}
 use Rattle.bit_vector.specs.Bits.{bits_of, number_of, words_number, words_for, packed, IsPacked}
 use Rattle.bit_vector.proofs.BitLemmas.{length-bits_of, bits_of-number_of, number_of-lt}
 use Rattle.bit_vector.proofs.ViewLemmas.{packed-bits_of}
 use Rattle.bit_vector.proofs.SampleLemmas.{length-packed, AreWords-packed, words_number-packed}
-use Rattle.elias_fano.specs.declared.fault.FormFault.{FormFault}
 use Rattle.elias_fano.specs.Spelling.{number, run, low_bits}
-use Rattle.elias_fano.specs.Reading.{◌>>=◌, fault, number_at, words_in}
+use Rattle.elias_fano.specs.Reading.{fault, number_at, words_in}
 use Rattle.elias_fano.proofs.TextLemmas.{length-low_bits}
 use Rattle.elias_fano.proofs.ValueLemmas.{low-lt}
 use Rattle.elias_fano.proofs.FormLemmas.{IsBytes, IsBytes-drop, packed_if_clear}
-use Rattle.elias_fano.proofs.LawLemmas.{bind_ok, guard_ok, guard_last, ok_is, done, Takes, Takes-then, number_takes, number_again, words_written, words_again, length-numbers}
+use Rattle.elias_fano.proofs.LawLemmas.{bind_ok, guard_ok, guard_last, Takes, number_takes, number_again, words_written, words_again, length-numbers}
 use Rattle.pilot_codecs.specs.Spelling.{digits_of, greatest, compact_text}
-use Rattle.pilot_codecs.specs.Reading.{fields, fields_in, packed_at, compact_at}
-use Rattle.pilot_codecs.specs.Parts.{IsCompact}
-use Rattle.pilot_codecs.proofs.FieldLemmas.{lt-digits_of, digits_of-le, digits_of-pos, length-fields, fields-low_bits, low_bits-fields, greatest-cons}
-use Rattle.pilot_codecs.proofs.CompactLemmas.{compact_text-fields, packed_at-ok, compact_at-packed}
+use Rattle.pilot_codecs.specs.Reading.{fields, packed_at, compact_at}
+use Rattle.pilot_codecs.proofs.FieldLemmas.{lt-digits_of, digits_of-le, digits_of-pos, length-fields, fields-low_bits, low_bits-fields}
+use Rattle.pilot_codecs.proofs.CompactLemmas.{packed_at-ok, compact_at-packed}
 
 pub greatest-fields : (n w : ℕ) (bits : List Bool) → greatest (fields n w bits) < 2 ^ w
 unfolding fields greatest
@@ -52,12 +50,12 @@ packed_takes at count w bytes vs rest fits narrow e =
     let packing = packed_if_clear len bytes fits (ltb-true _ _ k.0) in
     let written : flat_map number (packed bits) ++ drop (8 * size) bytes ≡ bytes = ap (λ (xs : List ℕ). flat_map number xs ++ drop (8 * size) bytes) (packed-bits_of ws len packing) ∙ words_written size bytes fits long in
     let text : number (digits_of (greatest got)) ++ flat_map number (packed (low_bits (digits_of (greatest got)) got)) ≡ number w ++ flat_map number (packed bits) =
-      ap (λ (j : ℕ). number j ++ flat_map number (packed (low_bits j got))) width ∙ ap (λ (bs : List Bool). number w ++ flat_map number (packed bs)) (low_bits-fields count w bits (length-bits_of len n)) in
+    ap (λ (j : ℕ). number j ++ flat_map number (packed (low_bits j got))) width ∙ ap (λ (bs : List Bool). number w ++ flat_map number (packed bs)) (low_bits-fields count w bits (length-bits_of len n)) in
     let whole : number w ++ bytes ≡ (number (digits_of (greatest got)) ++ flat_map number (packed (low_bits (digits_of (greatest got)) got))) ++ drop (8 * size) bytes =
-      sym (ap (λ (t : List ℕ). t ++ drop (8 * size) bytes) text ∙ append_assoc (number w) (flat_map number (packed bits)) (drop (8 * size) bytes) ∙ ap (λ (t : List ℕ). number w ++ t) written) in
+    sym (ap (λ (t : List ℕ). t ++ drop (8 * size) bytes) text ∙ append_assoc (number w) (flat_map number (packed bits)) (drop (8 * size) bytes) ∙ ap (λ (t : List ℕ). number w ++ t) written) in
     let more : 2 ^ w ≤ 2 ^ 64 = pow-le-pow_right (omega arith) narrow in
     subst (λ (p : List ℕ × List ℕ). (number w ++ bytes ≡ (number (digits_of (greatest p.0)) ++ flat_map number (packed (low_bits (digits_of (greatest p.0)) p.0))) ++ p.1) × IsBytes p.1 × (length p.0 ≡ count) × (greatest p.0 < 2 ^ 64)) k.1
-      (whole, IsBytes-drop (8 * size) bytes fits, length-fields count w bits, omega (arith, greatest-fields count w bits, more))
+    (whole, IsBytes-drop (8 * size) bytes fits, length-fields count w bits, omega (arith, greatest-fields count w bits, more))
 
 pub compact_takes : (at count : ℕ) (bytes vs rest : List ℕ) → IsBytes bytes → compact_at at count bytes ≡ Ok (vs, rest) → IsCompactText bytes count vs rest
 unfolding compact_at

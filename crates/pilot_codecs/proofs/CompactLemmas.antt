@@ -1,23 +1,20 @@
 -- Packed numbers, written and read.
-use Rattle.std.proofs.Common.{◌≡◌, ℕ, zero, suc, ◌+◌, ◌*◌, ◌-◌, ◌/◌, ◌%◌, ◌^◌, ◌<◌, ◌≤◌, max, Bool, true, false, cond, eqb, ltb, List, [], ◌∷◌, ◌++◌, length, get_or, take, drop, Result, Ok, Err, refl, sym, ap, ◌∙◌, subst, append_assoc, inl, inr, arith}
-use Rattle.std.specs.Prelude.{not, ◌||◌}
-use Rattle.std.proofs.Math.Nat.{mod-eq_of_lt}
+use Rattle.std.proofs.Common.{◌≡◌, ℕ, ◌+◌, ◌*◌, ◌-◌, ◌/◌, ◌%◌, ◌^◌, ◌<◌, ◌≤◌, max, Bool, true, false, eqb, ltb, List, ◌++◌, length, get_or, take, drop, Ok, Err, refl, sym, ap, ◌∙◌, subst, inl, inr, arith}
 use Rattle.std.proofs.lemmas.Nat.{mul-le}
 use Rattle.std.proofs.lemmas.Bool.{cases_lt, cases_eq, lt-ltb, le-ltb, eq-eqb, ne_eqb}
 use Rattle.std.proofs.lemmas.List.{take_more, take_rest}
-use Rattle.bit_vector.specs.Bits.{bits_of, number_of, words_number, words_for, IsPacked}
+use Rattle.bit_vector.specs.Bits.{bits_of, words_number, words_for, IsPacked}
 use Rattle.bit_vector.proofs.ViewLemmas.{bits_read}
-use Rattle.elias_fano.specs.declared.fault.FormFault.{FormFault}
 use Rattle.elias_fano.specs.declared.fault.ReadErr.{ReadErr}
 use Rattle.elias_fano.specs.declared.fault.ReadErr.TheVariants as errors
 use Rattle.elias_fano.specs.Spelling.{number, run, low_bits}
-use Rattle.elias_fano.specs.Reading.{◌>>=◌, Fails, fault, number_at, words_in}
+use Rattle.elias_fano.specs.Reading.{Fails, fault, number_at, words_in}
 use Rattle.elias_fano.proofs.TextLemmas.{length-low_bits}
 use Rattle.elias_fano.proofs.FormLemmas.{IsBytes, packed_if_clear}
 use Rattle.pilot_codecs.specs.Spelling.{digits_of, greatest, compact_text}
 use Rattle.pilot_codecs.specs.Reading.{fields, fields_in, packed_at, compact_at}
 use Rattle.pilot_codecs.specs.Parts.{IsCompact}
-use Rattle.pilot_codecs.proofs.FieldLemmas.{lt-digits_of, greatest-push, get_or-fields, length-fields, fields-low_bits, low_bits-fields}
+use Rattle.pilot_codecs.proofs.FieldLemmas.{lt-digits_of, greatest-push, get_or-fields, fields-low_bits, low_bits-fields}
 
 pub greatest-more : (vs : List ℕ) (i : ℕ) → i < length vs → greatest (take (i + 1) vs) ≡ max (greatest (take i vs)) (get_or vs i 0)
 greatest-more vs i lt = ap greatest (take_more vs i 0 lt) ∙ greatest-push (take i vs) (get_or vs i 0)
@@ -95,10 +92,10 @@ compact_at-width at count w bytes rest n other =
     elim (cases_eq w 0) [
       | inl none ↦ rw (n, eq-eqb w 0 none) refl
       | inr some ↦
-        elim (cases_lt 64 w) [
-          | inl wide ↦ rw (n, ne_eqb w 0 some, lt-ltb 64 w wide) refl
-          | inr le ↦ absurd (other (omega (arith, some), le))
-        ]
+          elim (cases_lt 64 w) [
+            | inl wide ↦ rw (n, ne_eqb w 0 some, lt-ltb 64 w wide) refl
+            | inr le ↦ absurd (other (omega (arith, some), le))
+          ]
     ]
 
 pub compact_at-packed : (at count w : ℕ) (bytes rest : List ℕ) → number_at at bytes ≡ Ok (w, rest) → (w ≡ 0 → ⊥) → w ≤ 64 → compact_at at count bytes ≡ packed_at at count w rest

@@ -1,12 +1,11 @@
 -- What each step of reading a dictionary gives.
-use Rattle.std.proofs.Common.{◌≡◌, ℕ, zero, suc, ◌+◌, ◌*◌, ◌-◌, ◌<◌, ◌≤◌, Bool, true, false, cond, eqb, ltb, List, [], ◌∷◌, ◌++◌, length, take, drop, Result, Ok, Err, refl, sym, ap, ◌∙◌, inl, inr, arith}
-use Rattle.std.specs.Prelude.{not, ◌&&◌, ◌||◌, ◌⊎◌}
-use Rattle.std.proofs.lemmas.Bool.{cases_lt, cases_eq, lt-ltb, le-ltb, eq-eqb, ne_eqb}
+use Rattle.std.proofs.Common.{◌≡◌, ℕ, ◌+◌, ◌*◌, ◌-◌, ◌<◌, ◌≤◌, true, false, ltb, List, length, take, drop, Ok, Err, refl, ap, ◌∙◌, inl, inr, arith}
+use Rattle.std.specs.Prelude.{◌⊎◌}
+use Rattle.std.proofs.lemmas.Bool.{lt-ltb, le-ltb, eq-eqb, ne_eqb}
 use Rattle.std.proofs.lemmas.List.{take_rest}
-use Rattle.elias_fano.specs.declared.fault.FormFault.{FormFault}
 use Rattle.elias_fano.specs.declared.fault.ReadErr.{ReadErr}
 use Rattle.elias_fano.specs.declared.fault.ReadErr.TheVariants as errors
-use Rattle.elias_fano.specs.Reading.{◌>>=◌, Fails, fault, number_at, words_in}
+use Rattle.elias_fano.specs.Reading.{Fails, fault, number_at, words_in}
 use Rattle.pilot_codecs.specs.Reading.{compact_at, rise_len, are_below, are_used, looked_up, used_at, indexed_at, entries_at, dict_at}
 
 pub used_at-below : (at : ℕ) (ds places : List ℕ) → are_below (length ds) places ≡ false → used_at at ds places ≡ Err (fault (at + 8 + 8 * length ds + 8) 5)

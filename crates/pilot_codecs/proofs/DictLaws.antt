@@ -1,12 +1,12 @@
 -- The dictionary of a list, and a list from a dictionary.
-use Rattle.std.proofs.Common.{◌≡◌, ◌≢◌, ℕ, zero, suc, ◌+◌, ◌*◌, ◌-◌, ◌/◌, ◌%◌, ◌^◌, ◌<◌, ◌≤◌, max, Bool, true, false, cond, eqb, ltb, List, [], ◌∷◌, ◌++◌, length, get_or, take, drop, map, Option, Some, None, refl, sym, ap, ◌∙◌, subst, inl, inr, arith}
-use Rattle.std.specs.Prelude.{◌&&◌, ◌||◌, ◌⊎◌, option_map}
+use Rattle.std.proofs.Common.{◌≡◌, ℕ, zero, suc, ◌+◌, ◌<◌, ◌≤◌, Bool, true, false, cond, eqb, ltb, List, [], ◌∷◌, ◌++◌, length, get_or, map, Option, Some, refl, sym, ap, ◌∙◌, subst, inl, inr, arith}
+use Rattle.std.specs.Prelude.{option_map}
 use Rattle.std.specs.List.{flat_map, slice_get}
 use Rattle.std.proofs.lemmas.Bool.{cases_lt, cases_eq, cases_Bool, or_cases, ltb-true, lt-ltb, le-ltb, eq-eqb, ne_eqb, eqb-true, false≢true, both_ways, or_parts}
 use Rattle.std.proofs.lemmas.List.{length-map, get_or-map}
 use Rattle.elias_fano.specs.Spelling.{number, is_among}
 use Rattle.pilot_codecs.specs.Spelling.{greatest, present_from, distinct, index_in, compact_text, dict_text}
-use Rattle.pilot_codecs.specs.Reading.{rise_from, rise_len, are_below, are_used, looked_up}
+use Rattle.pilot_codecs.specs.Reading.{rise_from, rise_len, are_below, looked_up}
 use Rattle.pilot_codecs.specs.Parts.{IsDict}
 use Rattle.pilot_codecs.proofs.FieldLemmas.{get_or-le-greatest}
 use Rattle.pilot_codecs.proofs.DictLemmas.{same_bool, rise_from-yes, rise_from-no, are_below-at, are_used-at, are_used-from}
@@ -52,11 +52,11 @@ up_from-rise_from b [] h = tt
 up_from-rise_from b (d ∷ ds) h =
     elim (cases_lt b d) [
       | inl lt ↦
-        let e : rise_from d ds + 1 ≡ suc (length ds) = sym (rise_from-yes b d ds lt) ∙ h in
-        (omega arith, up_from-rise_from d ds (omega (arith, e)))
+          let e : rise_from d ds + 1 ≡ suc (length ds) = sym (rise_from-yes b d ds lt) ∙ h in
+          (omega arith, up_from-rise_from d ds (omega (arith, e)))
       | inr le ↦
-        let e : 0 ≡ suc (length ds) = sym (rise_from-no b d ds le) ∙ h in
-        absurd (omega (arith, e))
+          let e : 0 ≡ suc (length ds) = sym (rise_from-no b d ds le) ∙ h in
+          absurd (omega (arith, e))
     ]
 
 pub up_from-rise_len : (ds : List ℕ) → rise_len ds ≡ length ds → Up 0 ds
@@ -105,12 +105,12 @@ present_rising at (suc n) [] h lt = none_present (at + 1) n
 present_rising at (suc n) (d ∷ ds) h lt =
     elim (cases_lt at d) [
       | inl less ↦
-        rw (ne_eqb at d (λ e. omega (arith, e)), not_among (suc d) at ds h.1 (omega arith)) (present_rising (at + 1) n (d ∷ ds) (omega arith, h.1) (omega (arith, lt)))
+          rw (ne_eqb at d (λ e. omega (arith, e)), not_among (suc d) at ds h.1 (omega arith)) (present_rising (at + 1) n (d ∷ ds) (omega arith, h.1) (omega (arith, lt)))
       | inr ge ↦
-        let here : at ≡ d = omega (arith, h.0) in
-        let next : suc d ≡ at + 1 = omega (arith, here) in
-        let rest : present_from (at + 1) n (d ∷ ds) ≡ ds = present_passed (at + 1) n d ds (omega arith) ∙ present_rising (at + 1) n ds (subst (λ (k : ℕ). Up k ds) next h.1) (omega (arith, lt)) in
-        rw (eq-eqb at d here) (ap (λ (x : ℕ). x ∷ present_from (at + 1) n (d ∷ ds)) here ∙ ap (λ (xs : List ℕ). d ∷ xs) rest)
+          let here : at ≡ d = omega (arith, h.0) in
+          let next : suc d ≡ at + 1 = omega (arith, here) in
+          let rest : present_from (at + 1) n (d ∷ ds) ≡ ds = present_passed (at + 1) n d ds (omega arith) ∙ present_rising (at + 1) n ds (subst (λ (k : ℕ). Up k ds) next h.1) (omega (arith, lt)) in
+          rw (eq-eqb at d here) (ap (λ (x : ℕ). x ∷ present_from (at + 1) n (d ∷ ds)) here ∙ ap (λ (xs : List ℕ). d ∷ xs) rest)
     ]
 
 present_same : (at n : ℕ) (us vs : List ℕ) → ((x : ℕ) → is_among x us ≡ is_among x vs) → present_from at n us ≡ present_from at n vs
@@ -124,8 +124,8 @@ present_same at (suc n) us vs h =
 pub distinct_is : (ds vs : List ℕ) → Up 0 ds → ((x : ℕ) → is_among x ds ≡ is_among x vs) → distinct vs ≡ ds
 distinct_is ds vs up same =
     let bound : greatest ds ≤ greatest vs = greatest_within (greatest vs) ds (λ i lt.
-      let p = index_of_among (get_or ds i 0) vs (sym (same (get_or ds i 0)) ∙ among_at ds i lt) in
-      omega (arith, p.2, get_or-le-greatest vs p.0)) in
+    let p = index_of_among (get_or ds i 0) vs (sym (same (get_or ds i 0)) ∙ among_at ds i lt) in
+    omega (arith, p.2, get_or-le-greatest vs p.0)) in
     present_same 0 (greatest vs + 1) vs ds (λ x. sym (same x)) ∙ present_rising 0 (greatest vs + 1) ds up (omega (arith, bound))
 
 up_present : (least at n : ℕ) (vs : List ℕ) → least ≤ at → Up least (present_from at n vs)
@@ -143,16 +143,16 @@ among_present at zero x vs low high = absurd (omega arith)
 among_present at (suc n) x vs low high =
     elim (cases_eq x at) [
       | inl e ↦
-        elim (cases_Bool (is_among at vs)) [
-          | inl t ↦ rw (t, eq-eqb x at e) (sym (ap (λ (y : ℕ). is_among y vs) e ∙ t))
-          | inr f ↦ rw f (not_among (suc at) x (present_from (at + 1) n vs) (up_present (suc at) (at + 1) n vs (omega arith)) (omega (arith, e)) ∙ sym (ap (λ (y : ℕ). is_among y vs) e ∙ f))
-        ]
+          elim (cases_Bool (is_among at vs)) [
+            | inl t ↦ rw (t, eq-eqb x at e) (sym (ap (λ (y : ℕ). is_among y vs) e ∙ t))
+            | inr f ↦ rw f (not_among (suc at) x (present_from (at + 1) n vs) (up_present (suc at) (at + 1) n vs (omega arith)) (omega (arith, e)) ∙ sym (ap (λ (y : ℕ). is_among y vs) e ∙ f))
+          ]
       | inr ne ↦
-        let rest = among_present (at + 1) n x vs (omega (arith, ne)) (omega arith) in
-        elim (cases_Bool (is_among at vs)) [
-          | inl t ↦ rw (t, ne_eqb x at ne) rest
-          | inr f ↦ rw f rest
-        ]
+          let rest = among_present (at + 1) n x vs (omega (arith, ne)) (omega arith) in
+          elim (cases_Bool (is_among at vs)) [
+            | inl t ↦ rw (t, ne_eqb x at ne) rest
+            | inr f ↦ rw f rest
+          ]
     ]
 
 above_none : (vs : List ℕ) (x : ℕ) → greatest vs < x → is_among x vs ≡ false
@@ -188,17 +188,17 @@ present_more at zero v vs = omega arith
 present_more at (suc n) v vs =
     elim (cases_eq at v) [
       | inl e ↦
-        let rest = ap length (present_passed (at + 1) n v vs (omega (arith, e))) in
-        elim (cases_Bool (is_among at vs)) [
-          | inl t ↦ rw (eq-eqb at v e, t) (omega (arith, rest))
-          | inr f ↦ rw (eq-eqb at v e, f) (omega (arith, rest))
-        ]
+          let rest = ap length (present_passed (at + 1) n v vs (omega (arith, e))) in
+          elim (cases_Bool (is_among at vs)) [
+            | inl t ↦ rw (eq-eqb at v e, t) (omega (arith, rest))
+            | inr f ↦ rw (eq-eqb at v e, f) (omega (arith, rest))
+          ]
       | inr ne ↦
-        let rest = present_more (at + 1) n v vs in
-        elim (cases_Bool (is_among at vs)) [
-          | inl t ↦ rw (ne_eqb at v ne, t) (omega (arith, rest))
-          | inr f ↦ rw (ne_eqb at v ne, f) (omega (arith, rest))
-        ]
+          let rest = present_more (at + 1) n v vs in
+          elim (cases_Bool (is_among at vs)) [
+            | inl t ↦ rw (ne_eqb at v ne, t) (omega (arith, rest))
+            | inr f ↦ rw (ne_eqb at v ne, f) (omega (arith, rest))
+          ]
     ]
 
 few_present : (at n : ℕ) (vs : List ℕ) → length (present_from at n vs) ≤ length vs
@@ -228,11 +228,11 @@ index_in-found (d ∷ ds) v h =
     elim (cases_eq d v) [
       | inl e ↦ rw (eq-eqb d v e) (omega arith, e)
       | inr ne ↦
-        let rest : is_among v ds ≡ true = elim (or_cases (eqb v d) (is_among v ds) h) [ inl t ↦ absurd (ne (sym (eqb-true v d t))) | inr r ↦ r ] in
-        let p = index_in-found ds v rest in
-        let place : index_in ds v + 1 ≡ suc (index_in ds v) = omega arith in
-        let next : get_or (d ∷ ds) (index_in ds v + 1) 0 ≡ v = ap (λ (k : ℕ). get_or (d ∷ ds) k 0) place ∙ p.1 in
-        rw (ne_eqb d v ne) (omega (arith, p.0), next)
+          let rest : is_among v ds ≡ true = elim (or_cases (eqb v d) (is_among v ds) h) [ inl t ↦ absurd (ne (sym (eqb-true v d t))) | inr r ↦ r ] in
+          let p = index_in-found ds v rest in
+          let place : index_in ds v + 1 ≡ suc (index_in ds v) = omega arith in
+          let next : get_or (d ∷ ds) (index_in ds v + 1) 0 ≡ v = ap (λ (k : ℕ). get_or (d ∷ ds) k 0) place ∙ p.1 in
+          rw (ne_eqb d v ne) (omega (arith, p.0), next)
     ]
 
 -- ---- a dictionary with indexes, and the list
@@ -260,8 +260,8 @@ dict_made vs =
         rising = rise_len-up 0 ds (up_distinct vs);
         below = below_map (length ds) (index_in ds) vs (λ i lt. (found i lt).0);
         used = are_used-from (length ds) (map (index_in ds) vs) (λ d lt.
-          let p = index_of_among (get_or ds d 0) vs (sym (among_distinct (get_or ds d 0) vs) ∙ among_at ds d lt) in
-          among_by d (map (index_in ds) vs) p.0 (omega (arith, p.1, length-map vs (index_in ds)))
+            let p = index_of_among (get_or ds d 0) vs (sym (among_distinct (get_or ds d 0) vs) ∙ among_at ds d lt) in
+            among_by d (map (index_in ds) vs) p.0 (omega (arith, p.1, length-map vs (index_in ds)))
             (get_or-map (index_in ds) vs p.0 0 0 p.1 ∙ ap (λ (x : ℕ). index_in ds x) p.2 ∙ index_in-at 0 ds d (up_distinct vs) lt));
       };
       same = map_back (λ p. get_or ds p 0) (index_in ds) vs (λ i lt. (found i lt).1);
@@ -271,18 +271,17 @@ pub dict_same : (ds places : List ℕ) → IsDict ds places → (distinct (looke
 dict_same ds places d =
     let vs = looked_up ds places in
     let up = up_from-rise_len ds d.rising in
-    let n = length-map places (λ p. get_or ds p 0) in
-    (
+    let n = length-map places (λ p. get_or ds p 0) in (
       distinct_is ds vs up (λ x. same_bool (is_among x ds) (is_among x vs)
-        (λ t.
+          (λ t.
           let p = index_of_among x ds t in
           let q = index_of_among p.0 places (are_used-at (length ds) places p.0 d.used p.1) in
           among_by x vs q.0 (omega (arith, q.1, n)) (get_or-map (λ p. get_or ds p 0) places q.0 0 0 q.1 ∙ ap (λ (k : ℕ). get_or ds k 0) q.2 ∙ p.2))
-        (λ t.
+          (λ t.
           let p = index_of_among x vs t in
           let lt : p.0 < length places = omega (arith, p.1, n) in
           among_by x ds (get_or places p.0 0) (are_below-at (length ds) places p.0 d.below lt) (sym (get_or-map (λ p. get_or ds p 0) places p.0 0 0 lt) ∙ p.2))),
-      map_back (index_in ds) (λ p. get_or ds p 0) places (λ i lt. index_in-at 0 ds (get_or places i 0) up (are_below-at (length ds) places i d.below lt))
+      map_back (index_in ds) (λ p. get_or ds p 0) places (λ i lt. index_in-at 0 ds (get_or places i 0) up (are_below-at (length ds) places i d.below lt)),
     )
 
 pub dict_text-looked_up : (ds places : List ℕ) → IsDict ds places → dict_text (looked_up ds places) ≡ number (length ds) ++ flat_map number ds ++ compact_text places

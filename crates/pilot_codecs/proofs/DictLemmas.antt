@@ -1,11 +1,10 @@
 -- A dictionary that rises, and indexes into it.
-use Rattle.std.proofs.Common.{◌≡◌, ◌≢◌, ℕ, zero, suc, ◌+◌, ◌*◌, ◌-◌, ◌/◌, ◌%◌, ◌^◌, ◌<◌, ◌≤◌, max, Bool, true, false, cond, eqb, ltb, List, [], ◌∷◌, ◌++◌, length, get_or, take, drop, set, map, Some, refl, sym, ap, ◌∙◌, subst, inl, inr, arith}
-use Rattle.std.specs.Prelude.{◌&&◌, ◌||◌, ◌⊎◌}
-use Rattle.std.proofs.lemmas.Bool.{cases_lt, cases_eq, cases_order, cases_Bool, and_parts, and_from, ltb-true, ltb-false, lt-ltb, le-ltb, eq-eqb, ne_eqb, eqb-true, false≢true}
-use Rattle.std.proofs.lemmas.List.{drop_more, take_more, drop_all, get_or-set_same, get_or-set_other, get_or_past}
+use Rattle.std.proofs.Common.{◌≡◌, ℕ, zero, suc, ◌+◌, ◌<◌, ◌≤◌, Bool, true, false, eqb, ltb, List, [], ◌∷◌, ◌++◌, length, get_or, take, drop, set, Some, refl, sym, ap, ◌∙◌, inl, inr, arith}
+use Rattle.std.specs.Prelude.{◌||◌}
+use Rattle.std.proofs.lemmas.Bool.{cases_lt, cases_eq, cases_Bool, and_parts, and_from, ltb-true, lt-ltb, le-ltb, eq-eqb, ne_eqb}
+use Rattle.std.proofs.lemmas.List.{drop_more, take_more, get_or-set_same, get_or-set_other}
 use Rattle.elias_fano.specs.Spelling.{is_among}
-use Rattle.pilot_codecs.specs.Spelling.{greatest, present_from, distinct, index_in}
-use Rattle.pilot_codecs.specs.Reading.{rise_from, rise_len, are_below, are_used, looked_up}
+use Rattle.pilot_codecs.specs.Reading.{rise_from, rise_len, are_below, are_used}
 
 pub same_bool : (b c : Bool) → (b ≡ true → c ≡ true) → (c ≡ true → b ≡ true) → b ≡ c
 same_bool true c f g = sym (f refl)
@@ -110,10 +109,10 @@ marked_more used ps i p size n lt e small so_far d ok =
     let more = is_among-more d ps i lt ∙ ap (λ (x : ℕ). is_among d (take i ps) || eqb d x) (sym e) in
     elim (cases_eq d p) [
       | inl same ↦
-        let here : get_or (set used p true) p false ≡ true = get_or-set_same used p true false (omega (arith, n)) in
-        ap (λ (x : ℕ). get_or (set used p true) x false) same ∙ here ∙ sym (more ∙ ap (λ (b : Bool). is_among d (take i ps) || b) (eq-eqb d p same) ∙ or_yes (is_among d (take i ps)))
+          let here : get_or (set used p true) p false ≡ true = get_or-set_same used p true false (omega (arith, n)) in
+          ap (λ (x : ℕ). get_or (set used p true) x false) same ∙ here ∙ sym (more ∙ ap (λ (b : Bool). is_among d (take i ps) || b) (eq-eqb d p same) ∙ or_yes (is_among d (take i ps)))
       | inr ne ↦
-        get_or-set_other used p d true false ne ∙ so_far d ok ∙ sym (more ∙ ap (λ (b : Bool). is_among d (take i ps) || b) (ne_eqb d p ne) ∙ or_no (is_among d (take i ps)))
+          get_or-set_other used p d true false ne ∙ so_far d ok ∙ sym (more ∙ ap (λ (b : Bool). is_among d (take i ps) || b) (ne_eqb d p ne) ∙ or_no (is_among d (take i ps)))
     ]
 
 rise_from-le : (b : ℕ) (ds : List ℕ) → rise_from b ds ≤ length ds

@@ -1,21 +1,20 @@
 -- A dictionary spelling that is read is spelled so, and what is spelled is read again, whatever follows.
-use Rattle.std.proofs.Common.{◌≡◌, ℕ, zero, suc, ◌+◌, ◌*◌, ◌-◌, ◌^◌, ◌<◌, ◌≤◌, Bool, true, false, cond, eqb, ltb, List, [], ◌∷◌, ◌++◌, length, get_or, take, drop, map, Result, Ok, Err, refl, sym, ap, ◌∙◌, subst, append_assoc, inl, inr, arith}
+use Rattle.std.proofs.Common.{◌≡◌, ℕ, ◌+◌, ◌*◌, ◌-◌, ◌^◌, ◌<◌, ◌≤◌, cond, eqb, ltb, List, ◌++◌, length, get_or, take, drop, map, Ok, Err, sym, ap, ◌∙◌, subst, append_assoc, inl, inr, arith}
 use Rattle.std.specs.Prelude.{not, ◌&&◌, ◌||◌, ◌⊎◌}
 use Rattle.std.specs.List.{flat_map}
-use Rattle.std.proofs.lemmas.Bool.{cases_lt, cases_eq, ltb-false, not-false, or_parts}
+use Rattle.std.proofs.lemmas.Bool.{cases_lt, ltb-false, not-false}
 use Rattle.std.proofs.lemmas.List.{take_rest, drop_at, length-append, length-map, get_or-map, get_or_past}
-use Rattle.elias_fano.specs.declared.fault.FormFault.{FormFault}
-use Rattle.elias_fano.specs.Spelling.{number, is_among}
+use Rattle.elias_fano.specs.Spelling.{number}
 use Rattle.elias_fano.specs.Reading.{◌>>=◌, fault, number_at, words_in}
 use Rattle.elias_fano.proofs.FormLemmas.{IsBytes, IsBytes-drop, words_in-fit, length-words_in}
-use Rattle.elias_fano.proofs.LawLemmas.{bind_ok, guard_ok, ok_is, done, Takes, Takes-then, number_takes, number_again, words_written, words_again, length-numbers}
+use Rattle.elias_fano.proofs.LawLemmas.{bind_ok, guard_ok, ok_is, Takes, number_takes, number_again, words_written, words_again, length-numbers}
 use Rattle.pilot_codecs.specs.Spelling.{greatest, distinct, index_in, compact_text, dict_text}
 use Rattle.pilot_codecs.specs.Reading.{compact_at, rise_len, are_below, are_used, looked_up, used_at, indexed_at, entries_at, dict_at}
 use Rattle.pilot_codecs.specs.Parts.{IsDict}
 use Rattle.pilot_codecs.proofs.FieldLemmas.{get_or-le-greatest}
 use Rattle.pilot_codecs.proofs.CompactLaws.{compact_takes, compact_again}
 use Rattle.pilot_codecs.proofs.DictLemmas.{rise_len-le, are_below-at}
-use Rattle.pilot_codecs.proofs.DictLaws.{greatest_within, index_of_among, among_at, among_distinct, few_distinct, some_distinct, IsDictOf, dict_made, dict_text-looked_up}
+use Rattle.pilot_codecs.proofs.DictLaws.{greatest_within, index_of_among, among_at, among_distinct, few_distinct, some_distinct, dict_made, dict_text-looked_up}
 use Rattle.pilot_codecs.proofs.DictForms.{used_at-ok, indexed_at-ok, entries_at-rest, dict_at-entries}
 
 -- what a reading took
@@ -27,7 +26,7 @@ pub record IsDictText (bytes : List ℕ) (count : ℕ) (vs rest : List ℕ) : Ty
 looked_small : (ds places : List ℕ) → ((i : ℕ) → get_or ds i 0 < 2 ^ 64) → greatest (looked_up ds places) < 2 ^ 64
 looked_small ds places fits =
     let most = greatest_within (2 ^ 64 - 1) (looked_up ds places) (λ i lt.
-      omega (arith, get_or-map (λ p. get_or ds p 0) places i 0 0 (omega (arith, lt, length-map places (λ p. get_or ds p 0))), fits (get_or places i 0))) in
+    omega (arith, get_or-map (λ p. get_or ds p 0) places i 0 0 (omega (arith, lt, length-map places (λ p. get_or ds p 0))), fits (get_or places i 0))) in
     omega (arith, most)
 
 entries_take : (at count size : ℕ) (bytes vs rest : List ℕ) → IsBytes bytes → entries_at at count size bytes ≡ Ok (vs, rest) → (number size ++ bytes ≡ dict_text vs ++ rest) × IsBytes rest × (length vs ≡ count) × (greatest vs < 2 ^ 64)
@@ -47,15 +46,15 @@ entries_take at count size bytes vs rest fits e =
     let t = compact_takes (at + 8 + 8 * length ds) count after a.0.0 a.0.1 (IsBytes-drop (8 * size) bytes fits) a.1 in
     let got = looked_up ds a.0.0 in
     let text : number size ++ bytes ≡ dict_text got ++ a.0.1 =
-      ap (λ (x : List ℕ). number size ++ x) (sym (words_written size bytes fits long) ∙ ap (λ (x : List ℕ). flat_map number ds ++ x) t.taken.parts)
-      ∙ ap (λ (j : ℕ). number j ++ (flat_map number ds ++ (compact_text a.0.0 ++ a.0.1))) (sym n)
-      ∙ sym (append_assoc (number (length ds) ++ flat_map number ds) (compact_text a.0.0) a.0.1 ∙ append_assoc (number (length ds)) (flat_map number ds) (compact_text a.0.0 ++ a.0.1))
-      ∙ ap (λ (x : List ℕ). x ++ a.0.1) (sym (dict_text-looked_up ds a.0.0 dict)) in
+    ap (λ (x : List ℕ). number size ++ x) (sym (words_written size bytes fits long) ∙ ap (λ (x : List ℕ). flat_map number ds ++ x) t.taken.parts)
+    ∙ ap (λ (j : ℕ). number j ++ (flat_map number ds ++ (compact_text a.0.0 ++ a.0.1))) (sym n)
+    ∙ sym (append_assoc (number (length ds) ++ flat_map number ds) (compact_text a.0.0) a.0.1 ∙ append_assoc (number (length ds)) (flat_map number ds) (compact_text a.0.0 ++ a.0.1))
+    ∙ ap (λ (x : List ℕ). x ++ a.0.1) (sym (dict_text-looked_up ds a.0.0 dict)) in
     let made : (number size ++ bytes ≡ dict_text got ++ a.0.1) × IsBytes a.0.1 × (length got ≡ count) × (greatest got < 2 ^ 64) =
-      (text, t.taken.rest_fits, length-map a.0.0 (λ p. get_or ds p 0) ∙ t.count_is, looked_small ds a.0.0 (words_in-fit size bytes fits)) in
+    (text, t.taken.rest_fits, length-map a.0.0 (λ p. get_or ds p 0) ∙ t.count_is, looked_small ds a.0.0 (words_in-fit size bytes fits)) in
     let same : got ≡ b.0 = ok_is got b.0 m.1 in
     subst (λ (p : List ℕ × List ℕ). (number size ++ bytes ≡ dict_text p.0 ++ p.1) × IsBytes p.1 × (length p.0 ≡ count) × (greatest p.0 < 2 ^ 64)) (ok_is {A = List ℕ × List ℕ} (b.0, a.0.1) (vs, rest) b.2)
-      (subst (λ (x : List ℕ). (number size ++ bytes ≡ dict_text x ++ a.0.1) × IsBytes a.0.1 × (length x ≡ count) × (greatest x < 2 ^ 64)) same made)
+    (subst (λ (x : List ℕ). (number size ++ bytes ≡ dict_text x ++ a.0.1) × IsBytes a.0.1 × (length x ≡ count) × (greatest x < 2 ^ 64)) same made)
 
 pub dict_takes : (at count : ℕ) (bytes vs rest : List ℕ) → IsBytes bytes → dict_at at count bytes ≡ Ok (vs, rest) → IsDictText bytes count vs rest
 unfolding dict_at
@@ -76,7 +75,7 @@ dict_again at vs rest small few =
     let back = compact_text places ++ rest in
     let after = flat_map number ds ++ back in
     let text : (number size ++ flat_map number ds ++ compact_text places) ++ rest ≡ number size ++ after =
-      append_assoc (number size ++ flat_map number ds) (compact_text places) rest ∙ append_assoc (number size) (flat_map number ds) back in
+    append_assoc (number size ++ flat_map number ds) (compact_text places) rest ∙ append_assoc (number size) (flat_map number ds) back in
     let fits : (i : ℕ) → get_or ds i 0 < 2 ^ 64 = λ i. elim (cases_lt i size) [
       | inl lt ↦ let p = index_of_among (get_or ds i 0) vs (sym (among_distinct (get_or ds i 0) vs) ∙ among_at ds i lt) in omega (arith, p.2, get_or-le-greatest vs p.0)
       | inr le ↦ omega (arith, get_or_past ds i 0 le)

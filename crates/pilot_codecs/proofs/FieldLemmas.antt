@@ -1,5 +1,5 @@
 -- Numbers of one width, and the width of the greatest.
-use Rattle.std.proofs.Common.{◌≡◌, ℕ, zero, suc, ◌+◌, ◌*◌, ◌-◌, ◌/◌, ◌%◌, ◌^◌, ◌<◌, ◌≤◌, max, Bool, List, [], ◌∷◌, ◌++◌, length, get_or, take, drop, refl, sym, ap, ◌∙◌, subst, inl, inr, arith}
+use Rattle.std.proofs.Common.{◌≡◌, ℕ, zero, suc, ◌+◌, ◌*◌, ◌/◌, ◌^◌, ◌<◌, ◌≤◌, max, Bool, List, [], ◌∷◌, ◌++◌, length, get_or, take, drop, refl, sym, ap, ◌∙◌, inl, inr, arith}
 use Rattle.std.proofs.Math.Nat.{mod-eq_of_lt}
 use Rattle.std.proofs.lemmas.Bool.{cases_lt, lt-ltb, le-ltb}
 use Rattle.std.proofs.Math.Nat.{pow-suc}
@@ -20,9 +20,9 @@ below_digits (suc most) n lt =
     elim (cases_lt n 2) [
       | inl small ↦ rw (lt-ltb n 2 small) (omega arith)
       | inr large ↦
-        let half = below_digits most (n / 2) (omega (arith, pow-suc 2 (suc most))) in
-        let more : 2 ^ (log2_within most (n / 2) + 1 + 1) ≡ 2 ^ (log2_within most (n / 2) + 1) * 2 = ap (λ (j : ℕ). 2 ^ j) (omega arith) ∙ pow-suc 2 (log2_within most (n / 2) + 1) in
-        rw (le-ltb n 2 large) (omega (arith, half, more))
+          let half = below_digits most (n / 2) (omega (arith, pow-suc 2 (suc most))) in
+          let more : 2 ^ (log2_within most (n / 2) + 1 + 1) ≡ 2 ^ (log2_within most (n / 2) + 1) * 2 = ap (λ (j : ℕ). 2 ^ j) (omega arith) ∙ pow-suc 2 (log2_within most (n / 2) + 1) in
+          rw (le-ltb n 2 large) (omega (arith, half, more))
     ]
 
 pub lt-digits_of : (n : ℕ) → n < 2 ^ 64 → n < 2 ^ digits_of n

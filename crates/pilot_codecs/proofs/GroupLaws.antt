@@ -1,18 +1,15 @@
 -- Groups that are read are spelled so, and what is spelled is read again, whatever follows.
-use Rattle.std.proofs.Common.{◌≡◌, ℕ, zero, suc, ◌+◌, ◌*◌, ◌-◌, ◌/◌, ◌%◌, ◌^◌, ◌<◌, ◌≤◌, max, min, List, [], ◌∷◌, ◌++◌, length, get_or, take, drop, Result, Ok, Err, refl, sym, ap, ◌∙◌, subst, append_assoc, inl, inr, arith}
-use Rattle.std.specs.Prelude.{◌⊎◌}
+use Rattle.std.proofs.Common.{◌≡◌, ℕ, zero, suc, ◌+◌, ◌-◌, ◌^◌, ◌<◌, ◌≤◌, max, min, List, [], ◌∷◌, ◌++◌, length, take, drop, Ok, refl, sym, ap, ◌∙◌, subst, append_assoc, inl, inr, arith}
 use Rattle.std.specs.List.{flat_map}
 use Rattle.std.proofs.lemmas.Bool.{cases_lt}
 use Rattle.std.proofs.lemmas.List.{append-nil, take-take, take_at, drop_at, take_all, drop_all, length-append, length-take, length-drop, nil_from_length}
-use Rattle.elias_fano.specs.declared.fault.FormFault.{FormFault}
 use Rattle.elias_fano.specs.declared.fault.ReadErr.{ReadErr}
 use Rattle.elias_fano.specs.declared.fault.ReadErr.TheVariants as errors
 use Rattle.elias_fano.specs.Reading.{◌>>=◌, Fails}
 use Rattle.elias_fano.proofs.FormLemmas.{IsBytes}
-use Rattle.elias_fano.proofs.LawLemmas.{bind_ok, ok_is, done, Takes, Takes-then}
+use Rattle.elias_fano.proofs.LawLemmas.{bind_ok, ok_is, Takes, Takes-then}
 use Rattle.pilot_codecs.specs.Spelling.{greatest, groups_for, groups_of, compact_text, parted_text}
 use Rattle.pilot_codecs.specs.Reading.{compact_at, groups_at, parted_at}
-use Rattle.pilot_codecs.specs.Parts.{IsParted}
 use Rattle.pilot_codecs.proofs.GroupLemmas.{groups_for-more, flat-groups_of}
 use Rattle.pilot_codecs.proofs.CompactLaws.{compact_takes, compact_again}
 
@@ -55,9 +52,9 @@ cut_more n count g gs lt size others cut =
     let parts : (take 256 (g ++ flat gs) ≡ g) × (drop 256 (g ++ flat gs) ≡ flat gs) = elim (cases_lt 256 count) [
       | inl more ↦ (take_at g (flat gs) 256 (omega (arith, size)), drop_at g (flat gs) 256 (omega (arith, size)))
       | inr le ↦
-        let none : flat gs ≡ [] = nil_from_length (flat gs) (omega (arith, others)) in
-        let alone : g ++ flat gs ≡ g = ap (λ (xs : List ℕ). g ++ xs) none ∙ append-nil g in
-        (ap (λ (xs : List ℕ). take 256 xs) alone ∙ take_all 256 g (omega (arith, size)), ap (λ (xs : List ℕ). drop 256 xs) alone ∙ drop_all 256 g (omega (arith, size)) ∙ sym none)
+          let none : flat gs ≡ [] = nil_from_length (flat gs) (omega (arith, others)) in
+          let alone : g ++ flat gs ≡ g = ap (λ (xs : List ℕ). g ++ xs) none ∙ append-nil g in
+          (ap (λ (xs : List ℕ). take 256 xs) alone ∙ take_all 256 g (omega (arith, size)), ap (λ (xs : List ℕ). drop 256 xs) alone ∙ drop_all 256 g (omega (arith, size)) ∙ sym none)
     ] in
     ap (λ (k : ℕ). groups_of k (g ++ flat gs)) (groups_for-more count lt)
     ∙ ap (λ (xs : List ℕ). xs ∷ groups_of (groups_for (count - 256)) (drop 256 (g ++ flat gs))) parts.0
@@ -102,11 +99,11 @@ groups_again (suc n) at vs rest small k =
     let text : bytes ≡ compact_text g ++ after = append_assoc (compact_text g) (flat_map compact_text others) rest in
     let size : length g ≡ min 256 (length vs) = length-take 256 vs in
     let first : compact_at at (min 256 (length vs)) bytes ≡ Ok (g, after) =
-      ap (λ (j : ℕ). compact_at at j bytes) (sym size) ∙ ap (λ (t : List ℕ). compact_at at (length g) t) text ∙ compact_again at g after (omega (arith, greatest-take 256 vs)) in
+    ap (λ (j : ℕ). compact_at at j bytes) (sym size) ∙ ap (λ (t : List ℕ). compact_at at (length g) t) text ∙ compact_again at g after (omega (arith, greatest-take 256 vs)) in
     let behind : length (drop 256 vs) ≡ length vs - 256 = length-drop 256 vs in
     let place = at + (length bytes - length after) in
     let more : groups_at n place (length vs - 256) after ≡ Ok (others, rest) =
-      ap (λ (j : ℕ). groups_at n place j after) (sym behind) ∙ groups_again n place (drop 256 vs) rest (omega (arith, greatest-drop 256 vs)) (omega (arith, k, groups_for-more (length vs) lt, behind)) in
+    ap (λ (j : ℕ). groups_at n place j after) (sym behind) ∙ groups_again n place (drop 256 vs) rest (omega (arith, greatest-drop 256 vs)) (omega (arith, k, groups_for-more (length vs) lt, behind)) in
     rw (first, more) refl
 
 pub parted_at-fails : (e : ReadErr) (at count : ℕ) (bytes : List ℕ) → Fails e (groups_at (groups_for count) at count bytes) → Fails e (parted_at at count bytes)

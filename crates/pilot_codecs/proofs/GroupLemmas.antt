@@ -1,13 +1,12 @@
 -- Groups of a list, and reading them one after the other, as a loop does.
-use Rattle.std.proofs.Common.{◌≡◌, ℕ, zero, suc, ◌+◌, ◌*◌, ◌-◌, ◌/◌, ◌%◌, ◌^◌, ◌<◌, ◌≤◌, min, List, [], ◌∷◌, ◌++◌, length, get_or, take, drop, Option, Some, None, Result, Ok, Err, refl, sym, ap, ◌∙◌, subst, append_assoc, inl, inr, arith}
+use Rattle.std.proofs.Common.{◌≡◌, ℕ, zero, suc, ◌+◌, ◌*◌, ◌-◌, ◌/◌, ◌%◌, ◌<◌, ◌≤◌, min, List, [], ◌∷◌, ◌++◌, length, get_or, take, drop, Result, Ok, Err, refl, sym, ap, ◌∙◌, append_assoc, arith}
 use Rattle.std.specs.List.{flat_map, slice_get}
-use Rattle.std.proofs.lemmas.Bool.{cases_lt}
 use Rattle.std.proofs.lemmas.List.{append-nil, drop-drop, take-append-drop, drop_all, length-drop, length-take, get_or_default}
 use Rattle.elias_fano.specs.declared.fault.FormFault.{FormFault}
 use Rattle.elias_fano.specs.declared.fault.ReadErr.{ReadErr}
 use Rattle.elias_fano.specs.declared.fault.ReadErr.TheVariants as errors
 use Rattle.elias_fano.specs.Reading.{◌>>=◌, Fails}
-use Rattle.pilot_codecs.specs.Spelling.{groups_for, groups_of, compact_text}
+use Rattle.pilot_codecs.specs.Spelling.{groups_for, groups_of}
 use Rattle.pilot_codecs.specs.Reading.{compact_at, groups_at}
 
 pub groups_for-more : (count : ℕ) → 0 < count → groups_for count ≡ suc (groups_for (count - 256))
@@ -82,7 +81,7 @@ goes_on front left place size bytes g after total lt s h so_far =
     let next = size_is left size lt s in
     let read : compact_at place (min 256 left) bytes ≡ Ok (g, after) = ap (λ (j : ℕ). compact_at place j bytes) (sym s) ∙ h in
     let one : with_front front (groups_at (groups_for left) place left bytes) ≡ with_front (front ++ g ∷ []) (groups_at (groups_for (left - 256)) (place + (length bytes - length after)) (left - 256) after) =
-      rw (k, read) (regroup front g (groups_at (groups_for (left - 256)) (place + (length bytes - length after)) (left - 256) after)) in
+    rw (k, read) (regroup front g (groups_at (groups_for (left - 256)) (place + (length bytes - length after)) (left - 256) after)) in
     ap (λ (j : ℕ). with_front (front ++ g ∷ []) (groups_at (groups_for j) (place + (length bytes - length after)) j after)) next ∙ sym one ∙ so_far
 
 pub ends : (e : ReadErr) (front : List (List ℕ)) (left place size : ℕ) (bytes : List ℕ) (total : Result (List (List ℕ) × List ℕ) FormFault) → 0 < left → size ≡ min 256 left → Fails e (compact_at place size bytes)

@@ -1,16 +1,15 @@
 -- Sums and steps.
-use Rattle.std.proofs.Common.{◌≡◌, ℕ, zero, suc, ◌+◌, ◌*◌, ◌-◌, ◌^◌, ◌<◌, ◌≤◌, true, List, [], ◌∷◌, ◌++◌, length, get_or, take, drop, Option, Some, None, Result, Ok, Err, refl, sym, ap, ◌∙◌, subst, arith}
+use Rattle.std.proofs.Common.{◌≡◌, ℕ, zero, suc, ◌+◌, ◌-◌, ◌^◌, ◌<◌, ◌≤◌, true, List, [], ◌∷◌, ◌++◌, length, get_or, take, Some, Ok, refl, sym, ap, ◌∙◌, subst, arith}
 use Rattle.std.specs.List.{slice_get}
-use Rattle.std.proofs.lemmas.List.{take_more, take_at, take_all}
-use Rattle.elias_fano.specs.declared.fault.FormFault.{FormFault}
+use Rattle.std.proofs.lemmas.List.{take_more}
 use Rattle.elias_fano.specs.declared.fault.ReadErr.{ReadErr}
 use Rattle.elias_fano.specs.declared.fault.ReadErr.TheVariants as errors
 use Rattle.elias_fano.specs.Spelling.{rises, last_of, ef_text, IsRising}
-use Rattle.elias_fano.specs.Reading.{◌>>=◌, Fails, list_at}
+use Rattle.elias_fano.specs.Reading.{Fails, list_at}
 use Rattle.elias_fano.proofs.FormLemmas.{IsBytes}
-use Rattle.elias_fano.proofs.LawLemmas.{bind_ok, ok_is, done, IsTaken, list_takes, list_again}
+use Rattle.elias_fano.proofs.LawLemmas.{bind_ok, ok_is, IsTaken, list_takes, list_again}
 use Rattle.elias_fano.proofs.ValueLemmas.{rises-parts, rises-yes}
-use Rattle.pilot_codecs.specs.Spelling.{greatest, sums_from}
+use Rattle.pilot_codecs.specs.Spelling.{sums_from}
 use Rattle.pilot_codecs.specs.Reading.{steps_from, sums_at}
 
 -- the sum of a list

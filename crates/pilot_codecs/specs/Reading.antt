@@ -1,5 +1,5 @@
 -- Reading a spelling from the left, with the first fault that is met.
-use Rattle.std.specs.Prelude.{ℕ, zero, suc, ◌≡◌, ◌+◌, ◌-◌, ◌*◌, ◌/◌, ◌^◌, ◌<◌, ◌≤◌, min, Bool, true, false, not, ◌&&◌, ◌||◌, List, [], ◌∷◌, ◌++◌, length, map, take, drop, slice_index, Option, Some, None, Result, Ok, Err, nat_lt, ◌==◌, if◌then◌else◌}
+use Rattle.std.specs.Prelude.{ℕ, zero, suc, ◌+◌, ◌-◌, ◌*◌, ◌^◌, min, Bool, true, not, ◌&&◌, ◌||◌, List, [], ◌∷◌, ◌++◌, length, map, take, drop, slice_index, Option, Some, None, Result, Ok, Err, nat_lt, ◌==◌, if◌then◌else◌}
 use Rattle.std.specs.List.{flat_map}
 use Rattle.bit_vector.specs.Bits.{bits_of, number_of, words_number, words_for}
 use Rattle.pthash.specs.Sizes.{front_count_of}
@@ -9,9 +9,8 @@ use Rattle.elias_fano.specs.Spelling.{is_among}
 use Rattle.elias_fano.specs.Reading.{◌>>=◌, fault, number_at, words_in, list_at}
 use Rattle.pilot_codecs.specs.declared.code.Code.{Code}
 use Rattle.pilot_codecs.specs.declared.code.Code.TheVariants as codes
-use Rattle.pilot_codecs.specs.declared.code.Encoding.{Encoding}
 use Rattle.pilot_codecs.specs.declared.TheConstants.{GROUP}
-use Rattle.pilot_codecs.specs.Spelling.{digits_of, greatest, groups_for, pair_text, Fits}
+use Rattle.pilot_codecs.specs.Spelling.{digits_of, greatest, groups_for}
 
 -- so many numbers of so many bits each
 unfoldable pub fields : ℕ → ℕ → List Bool → List ℕ

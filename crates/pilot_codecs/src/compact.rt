@@ -5,11 +5,10 @@ ghost use Rattle.pilot_codecs.specs.Spelling.{digits_of, greatest, compact_text}
 ghost use Rattle.bit_vector.specs.Bits.{bits_of, words_number};
 ghost use Rattle.pilot_codecs.specs.Reading.{fields, packed_at, compact_at};
 
-use std::alloc::Global;
-use std::marker::Model;
-
 use bit_vector::{BitVec, NoMemory, bits_at};
 use elias_fano::{FormFault, PADDING, ReadErr, SHORT, WIDTH, put_numbers, read_number, read_words};
+use std::alloc::Global;
+use std::marker::Model;
 
 /// Numbers in the width of the greatest.
 #[derive(Drop)]
@@ -39,12 +38,14 @@ pub fn digits(n: u64) -> u32
     if n == 0 { 1 } else { n.ilog2() + 1 }
 }
 
+// The larger of two numbers.
 fn larger(a: u64, b: u64) -> u64
     ensures { result ≡ max a b }
 {
     if a < b { b } else { a }
 }
 
+// The greatest value, 0 if there is none.
 fn greatest_of(values: &[u64]) -> u64
     ensures { result ≡ greatest values.now }
 {
@@ -64,10 +65,7 @@ fn greatest_in(words: &[u64], count: u64, width: u32) -> u64
 {
     let mut most = 0;
     for i in 0..count {
-        most = larger(
-            most,
-            bits_at(words, (i * u64::from(width)) as usize, width),
-        );
+        most = larger(most, bits_at(words, (i * u64::from(width)) as usize, width));
     }
     most
 }
@@ -90,12 +88,14 @@ impl Compact {
         })
     }
 
+    /// How many values there are.
     pub fn len(&self) -> u64
         ensures { result ≡ length self.now }
     {
         self.count
     }
 
+    /// The value with an index.
     pub fn get(&self, i: u64) -> Option<u64>
         ensures { result ≡ slice_get self.now i }
     {
@@ -116,7 +116,12 @@ impl Compact {
     }
 
     /// The list of a count that bytes begin with, and the bytes after it.
-    pub fn read(alloc: Global, at: u64, count: u64, bytes: &[u8]) -> Result<(Compact, &[u8]), ReadErr>
+    pub fn read(
+        alloc: Global,
+        at: u64,
+        count: u64,
+        bytes: &[u8],
+    ) -> Result<(Compact, &[u8]), ReadErr>
         requires few { count ≤ 2 ^ 30 }
         requires place { at ≤ 2 ^ 63 + 2 ^ 50 }
         ensures { Gives (λ x. (x.0, x.1.now)) result (compact_at at count bytes.now) }
@@ -145,7 +150,10 @@ fn packed_of(
     let len = count * u64::from(width);
     let size = len.div_ceil(64);
     if (bytes.len() as u64) < 8 * size {
-        return Err(ReadErr::Form(FormFault { at: at + 8, kind: SHORT }));
+        return Err(ReadErr::Form(FormFault {
+            at: at + 8,
+            kind: SHORT,
+        }));
     }
     let words = read_words(alloc, bytes, size as usize)?;
     if digits(greatest_in(&words, count, width)) != width {

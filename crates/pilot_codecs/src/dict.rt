@@ -5,14 +5,13 @@ ghost use Rattle.elias_fano.specs.Reading.{Gives};
 ghost use Rattle.pilot_codecs.specs.Spelling.{dict_text, compact_text};
 ghost use Rattle.pilot_codecs.specs.Reading.{rise_len, are_below, are_used, used_at, indexed_at, entries_at, dict_at};
 
-use std::alloc::Global;
-use std::marker::Model;
-
 use crate::compact::Compact;
 use crate::distinct::{distinct_of, indexes_of};
 use crate::entries::{are_all_below, are_all_used, rise};
 use bit_vector::NoMemory;
 use elias_fano::{COUNT, FormFault, ORDER, ReadErr, SHORT, put_numbers, read_number, read_words};
+use std::alloc::Global;
+use std::marker::Model;
 
 /// The distinct numbers, and each number by its index among them.
 #[derive(Drop)]
@@ -45,12 +44,14 @@ impl Dict {
         Ok(Dict { entries, places })
     }
 
+    /// How many values there are.
     pub fn len(&self) -> u64
         ensures { result ≡ length self.now }
     {
         self.places.len()
     }
 
+    /// The value with an index.
     pub fn get(&self, i: u64) -> Option<u64>
         ensures { result ≡ slice_get self.now i }
     {
@@ -85,6 +86,7 @@ impl Dict {
     }
 }
 
+// Appends the size, the entries and the indexes; on want of memory a part of them.
 fn put_entries(out: &mut Vec<u8>, entries: &[u64], places: &Compact) -> Result<(), NoMemory>
     ensures ok { OnOk result (out.new.items ≡ out.old.items
         ++ (number (length entries.now) ++ flat_map number entries.now ++ compact_text places.now)) }
@@ -110,7 +112,10 @@ fn entries_of(
     ensures { Gives (λ x. (x.0, x.1.now)) result (entries_at at count size bytes.now) }
 {
     if (bytes.len() as u64) < 8 * size {
-        return Err(ReadErr::Form(FormFault { at: at + 8, kind: SHORT }));
+        return Err(ReadErr::Form(FormFault {
+            at: at + 8,
+            kind: SHORT,
+        }));
     }
     let entries = read_words(alloc, bytes, size as usize)?;
     let risen = rise(&entries) as u64;

@@ -1,10 +1,9 @@
 ghost use Rattle.std.specs.Prelude.{◌≡◌, ◌+◌, ◌*◌, ◌^◌, ◌<◌, ◌≤◌, ◌↔◌, ℕ, true, false, length, slice_index, slice_index_or, IfOk, IsTrue};
 ghost use Rattle.pilot_codecs.specs.Reading.{rise_len, are_below, are_used};
 
-use std::alloc::Global;
-
 use crate::compact::Compact;
 use bit_vector::NoMemory;
+use std::alloc::Global;
 
 /// How many numbers stand at the front that are each above the one before.
 pub fn rise(entries: &[u64]) -> usize

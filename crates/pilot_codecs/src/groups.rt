@@ -4,12 +4,11 @@ ghost use Rattle.elias_fano.specs.Reading.{Gives};
 ghost use Rattle.pilot_codecs.specs.Spelling.{compact_text, groups_for};
 ghost use Rattle.pilot_codecs.specs.Reading.{groups_at};
 
-use std::alloc::Global;
-
 use crate::GROUP;
 use crate::compact::Compact;
 use bit_vector::NoMemory;
 use elias_fano::ReadErr;
+use std::alloc::Global;
 
 /// Appends the spelling of each group; on want of memory a part of it.
 pub fn put_groups(out: &mut Vec<u8>, groups: &[Compact]) -> Result<(), NoMemory>

@@ -5,8 +5,6 @@ ghost use Rattle.pilot_codecs.specs.Spelling.{greatest, code_text};
 ghost use Rattle.pilot_codecs.specs.Reading.{code_at};
 ghost use Rattle.pilot_codecs.specs.Values.{values_of, code_of};
 
-use std::alloc::Global;
-
 use crate::code::Code;
 use crate::compact::Compact;
 use crate::dict::Dict;
@@ -14,6 +12,7 @@ use crate::parted::Parted;
 use crate::sums::Sums;
 use bit_vector::NoMemory;
 use elias_fano::ReadErr;
+use std::alloc::Global;
 
 /// A list under one code.
 #[derive(Drop)]

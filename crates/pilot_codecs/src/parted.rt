@@ -4,14 +4,13 @@ ghost use Rattle.elias_fano.specs.Reading.{Gives};
 ghost use Rattle.pilot_codecs.specs.Spelling.{parted_text, groups_for};
 ghost use Rattle.pilot_codecs.specs.Reading.{parted_at};
 
-use std::alloc::Global;
-use std::marker::Model;
-
 use crate::GROUP;
 use crate::compact::Compact;
 use crate::groups::{put_groups, read_groups};
 use bit_vector::NoMemory;
 use elias_fano::ReadErr;
+use std::alloc::Global;
+use std::marker::Model;
 
 /// Groups of 256 numbers, each group in the width of its greatest.
 #[derive(Drop)]
@@ -51,12 +50,14 @@ impl Parted {
         })
     }
 
+    /// How many values there are.
     pub fn len(&self) -> u64
         ensures { result ≡ length self.now }
     {
         self.count
     }
 
+    /// The value with an index.
     pub fn get(&self, i: u64) -> Option<u64>
         ensures { result ≡ slice_get self.now i }
     {
@@ -76,7 +77,12 @@ impl Parted {
     }
 
     /// The list of a count that bytes begin with, and the bytes after it.
-    pub fn read(alloc: Global, at: u64, count: u64, bytes: &[u8]) -> Result<(Parted, &[u8]), ReadErr>
+    pub fn read(
+        alloc: Global,
+        at: u64,
+        count: u64,
+        bytes: &[u8],
+    ) -> Result<(Parted, &[u8]), ReadErr>
         requires few { count ≤ 2 ^ 30 }
         requires place { at + length bytes.now ≤ 2 ^ 63 + 2 ^ 49 }
         ensures { Gives (λ x. (x.0, x.1.now)) result (parted_at at count bytes.now) }

@@ -6,13 +6,12 @@ ghost use Rattle.pilot_codecs.specs.Spelling.{greatest, code_text, pair_text};
 ghost use Rattle.pilot_codecs.specs.Values.{values_of, code_of};
 ghost use Rattle.pilot_codecs.specs.Encoded.{Encoded, encoded_of, IsSplit, IsSpelled, pair_at};
 
-use std::alloc::Global;
-use std::marker::Model;
-
 use crate::code::{Code, Encoding};
 use crate::part::{Part, code_of_part, encode_part, part_get, part_len, put_part, read_part};
 use bit_vector::NoMemory;
 use elias_fano::ReadErr;
+use std::alloc::Global;
+use std::marker::Model;
 
 /// At most 2^30 small numbers under an encoding, each to be read at once.
 #[derive(Drop)]
@@ -31,6 +30,7 @@ impl Model for Pilots {
     ghost invariant = { λ p. IsSplit p.front p.back };
 }
 
+// How many values the front part has.
 fn front_count(count: u64) -> u64
     requires { count ≤ 2 ^ 30 }
     ensures { result ≡ front_count_of count }
@@ -130,6 +130,7 @@ impl Pilots {
     }
 }
 
+// The value with an index in two parts.
 fn get_of(front: &Part, back: &Part, i: u64) -> Option<u64>
     ensures { result ≡ slice_get (values_of front.now ++ values_of back.now) i }
 {
@@ -141,6 +142,7 @@ fn get_of(front: &Part, back: &Part, i: u64) -> Option<u64>
     }
 }
 
+// Appends both parts; on want of memory a part of them.
 fn put_both(front: &Part, back: &Part, out: &mut Vec<u8>) -> Result<(), NoMemory>
     ensures ok { OnOk result (out.new.items ≡ out.old.items
         ++ (code_text (code_of front.now) (values_of front.now)

@@ -5,11 +5,10 @@ ghost use Rattle.elias_fano.specs.Reading.{Gives};
 ghost use Rattle.pilot_codecs.specs.Spelling.{greatest, sums_from};
 ghost use Rattle.pilot_codecs.specs.Reading.{sums_at};
 
-use std::alloc::Global;
-use std::marker::Model;
-
 use bit_vector::NoMemory;
 use elias_fano::{EliasFano, ReadErr, read_list};
+use std::alloc::Global;
+use std::marker::Model;
 
 /// The sums of the numbers up to each.
 #[derive(Drop)]
@@ -29,6 +28,7 @@ impl Model for Sums {
     ghost invariant = { λ s. IsRising s.list };
 }
 
+// Each value added to those before it.
 fn sums_of(alloc: Global, values: &[u64]) -> Result<Vec<u64>, NoMemory>
     requires few { length values.now ≤ 2 ^ 30 }
     requires small { greatest values.now < 2 ^ 32 }
@@ -56,12 +56,14 @@ impl Sums {
         Ok(Sums { list })
     }
 
+    /// How many values there are.
     pub fn len(&self) -> u64
         ensures { result ≡ length self.now }
     {
         self.list.len()
     }
 
+    /// The value with an index.
     pub fn get(&self, i: u64) -> Option<u64>
         ensures { result ≡ slice_get self.now i }
     {

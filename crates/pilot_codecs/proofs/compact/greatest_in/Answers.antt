@@ -1,13 +1,9 @@
-use Rattle.std.proofs.Common.{◌≡◌, ℕ, ◌+◌, ◌-◌, ◌*◌, ◌/◌, ◌%◌, ◌^◌, ◌<◌, ◌≤◌, ◌++◌, max, List, [], ◌∷◌, Bool, true, false, length, take, drop, get_or, Some, None, Ok, Err, refl, sym, ap, ◌∙◌, subst, append_assoc, inl, inr, arith}
-use Rattle.std.specs.List.{flat_map, slice_get}
-use Rattle.bit_vector.specs.Bits.{bits_of, number_of, words_for, words_number, packed, IsPacked}
-use Rattle.elias_fano.specs.Spelling.{number, run, low_bits}
-use Rattle.elias_fano.specs.Reading.{Gives, Fails, fault, number_at, words_in}
-use Rattle.pilot_codecs.specs.Spelling.{digits_of, greatest, compact_text}
-use Rattle.pilot_codecs.specs.Reading.{fields, fields_in, packed_at, compact_at}
-use Rattle.pilot_codecs.specs.Parts.{IsCompact}
-use Rattle.pilot_codecs.proofs.FieldLemmas.{digits_of-none, digits_of-is, digits_of-le, digits_of-pos, lt-digits_of, greatest-nil, get_or-le-greatest, length-fields, get_or-fields}
-use Rattle.pilot_codecs.proofs.CompactLemmas.{greatest-more, place_fits, field_at, compact_made, compact_text-fields, packed_at-short, packed_at-width, packed_at-padding, packed_at-ok, compact_at-number, compact_at-width, compact_at-packed}
+use Rattle.std.proofs.Common.{◌≡◌, ℕ, ◌*◌, ◌/◌, ◌%◌, ◌^◌, ◌<◌, max, List, length, take, get_or, sym, ap, ◌∙◌, arith}
+use Rattle.bit_vector.specs.Bits.{bits_of, words_number}
+use Rattle.pilot_codecs.specs.Spelling.{greatest}
+use Rattle.pilot_codecs.specs.Reading.{fields}
+use Rattle.pilot_codecs.proofs.FieldLemmas.{greatest-nil, length-fields}
+use Rattle.pilot_codecs.proofs.CompactLemmas.{greatest-more, field_at}
 use Rattle.std.proofs.lemmas.List.{take_all}
 use Rattle.pilot_codecs.proofs.compact.greatest_in.Goals as goal
 

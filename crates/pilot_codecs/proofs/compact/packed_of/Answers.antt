@@ -1,13 +1,8 @@
-use Rattle.std.proofs.Common.{◌≡◌, ℕ, ◌+◌, ◌-◌, ◌*◌, ◌/◌, ◌%◌, ◌^◌, ◌<◌, ◌≤◌, ◌++◌, max, List, [], ◌∷◌, Bool, true, false, length, take, drop, get_or, Some, None, Ok, Err, refl, sym, ap, ◌∙◌, subst, append_assoc, inl, inr, arith}
-use Rattle.std.specs.List.{flat_map, slice_get}
-use Rattle.bit_vector.specs.Bits.{bits_of, number_of, words_for, words_number, packed, IsPacked}
-use Rattle.elias_fano.specs.Spelling.{number, run, low_bits}
-use Rattle.elias_fano.specs.Reading.{Gives, Fails, fault, number_at, words_in}
-use Rattle.pilot_codecs.specs.Spelling.{digits_of, greatest, compact_text}
-use Rattle.pilot_codecs.specs.Reading.{fields, fields_in, packed_at, compact_at}
-use Rattle.pilot_codecs.specs.Parts.{IsCompact}
-use Rattle.pilot_codecs.proofs.FieldLemmas.{digits_of-none, digits_of-is, digits_of-le, digits_of-pos, lt-digits_of, greatest-nil, get_or-le-greatest, length-fields, get_or-fields}
-use Rattle.pilot_codecs.proofs.CompactLemmas.{greatest-more, place_fits, field_at, compact_made, compact_text-fields, packed_at-short, packed_at-width, packed_at-padding, packed_at-ok, compact_at-number, compact_at-width, compact_at-packed}
+use Rattle.std.proofs.Common.{◌≡◌, ℕ, ◌*◌, List, Bool, length, refl, sym, ap, ◌∙◌, subst, arith}
+use Rattle.bit_vector.specs.Bits.{bits_of, words_number, IsPacked}
+use Rattle.pilot_codecs.specs.Spelling.{digits_of, greatest}
+use Rattle.pilot_codecs.specs.Reading.{fields}
+use Rattle.pilot_codecs.proofs.CompactLemmas.{packed_at-short, packed_at-width, packed_at-padding, packed_at-ok}
 use Rattle.std.proofs.lemmas.Bool.{false≢true}
 use Rattle.bit_vector.proofs.BitLemmas.{length-bits_of}
 use Rattle.elias_fano.proofs.FormLemmas.{length-words_in}
@@ -50,7 +45,7 @@ returns-in-None c =
     let d = digits_are c.in_ok-words.words.items c.deref.result.now count w c.greatest_in.result c.digits.result c.digits.ensures.value c.greatest_in.ensures c.deref.ensures.value in
     let wide : count * w ≡ count * c.from.result = sym (ap (λ (x : ℕ). count * x) c.from.ensures) in
     packed_at-padding c.args.at count w c.div_ceil-size.result c.args.bytes.now c.in_ok-words.words.items (omega (arith, c.div_ceil-size.ensures, wide)) c.if-bytes-size.false c.in_ok-words.ensures (λ i. omega (arith, c.type_inv.bytes i)) (sym d ∙ c.if-digits-width.false)
-      (λ p. false≢true (c.in-None.ensures.some.1 (subst (λ (k : ℕ). IsPacked c.in_ok-words.words.items k) wide p)))
+    (λ p. false≢true (c.in-None.ensures.some.1 (subst (λ (k : ℕ). IsPacked c.in_ok-words.words.items k) wide p)))
 
 pub returns-in-Some : goal.returns-in-Some
 returns-in-Some c =
@@ -60,4 +55,4 @@ returns-in-Some c =
     let wide : count * c.from.result ≡ count * w = ap (λ (x : ℕ). count * x) c.from.ensures in
     let bits : c.in-Some.bits ≡ bits_of (count * w) (words_number c.in_ok-words.words.items) = c.in-Some.ensures.value ∙ ap (λ (k : ℕ). bits_of k (words_number c.in_ok-words.words.items)) wide in
     packed_at-ok c.args.at count w c.div_ceil-size.result c.args.bytes.now c.in_ok-words.words.items c.in-Some.bits (omega (arith, c.div_ceil-size.ensures, wide)) c.if-bytes-size.false c.in_ok-words.ensures (sym d ∙ c.if-digits-width.false)
-      (subst (λ (k : ℕ). IsPacked c.in_ok-words.words.items k) wide (c.in-Some.ensures.some.0 refl)) bits
+    (subst (λ (k : ℕ). IsPacked c.in_ok-words.words.items k) wide (c.in-Some.ensures.some.0 refl)) bits

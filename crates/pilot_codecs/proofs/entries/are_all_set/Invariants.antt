@@ -1,6 +1,4 @@
-use Rattle.std.proofs.Common.{◌≡◌, ℕ, ◌+◌, ◌-◌, ◌*◌, ◌^◌, ◌<◌, ◌≤◌, true, false, length, take, drop, get_or}
-use Rattle.elias_fano.specs.Spelling.{is_among}
-use Rattle.pilot_codecs.specs.Reading.{rise_from, rise_len, are_below, are_used}
+use Rattle.std.proofs.Common.{◌≡◌, ℕ, ◌<◌, true, false, get_or}
 use Rattle.pilot_codecs.proofs.entries.are_all_set.Given as goal
 
 abbrev pub invariant-loop-u : goal.invariant-loop-u

@@ -1,12 +1,8 @@
-use Rattle.std.proofs.Common.{◌≡◌, ℕ, ◌+◌, ◌-◌, ◌*◌, ◌/◌, ◌%◌, ◌^◌, ◌<◌, ◌≤◌, ◌++◌, min, List, [], ◌∷◌, Bool, true, false, length, take, drop, set, get_or, map, Some, None, Ok, Err, refl, sym, ap, ◌∙◌, subst, append_assoc, inl, inr, arith}
-use Rattle.std.specs.List.{flat_map, slice_get}
-use Rattle.elias_fano.specs.Spelling.{number, is_among}
-use Rattle.elias_fano.specs.Reading.{Gives, Fails, fault, number_at, words_in}
-use Rattle.elias_fano.proofs.ValueLemmas.{slice_get-some, slice_get-is, slice_get-none}
-use Rattle.pilot_codecs.specs.Spelling.{compact_text, dict_text}
-use Rattle.pilot_codecs.specs.Reading.{rise_from, rise_len, are_below, are_used, looked_up, used_at, indexed_at, entries_at, dict_at, compact_at}
-use Rattle.pilot_codecs.specs.Parts.{IsDict}
-use Rattle.pilot_codecs.proofs.DictLemmas.{same_bool, rise_first, rise_step, rise_stop, rise_len-nil, rise_from-nil, are_below-step, are_below-stop, are_below-nil, are_below-at, are_used-at, are_used-from, is_among-nil, marked_more}
+use Rattle.std.proofs.Common.{◌≡◌, ℕ, ◌<◌, List, Bool, true, false, length, take, get_or, sym, ap, ◌∙◌, arith}
+use Rattle.elias_fano.specs.Spelling.{is_among}
+use Rattle.elias_fano.proofs.ValueLemmas.{slice_get-some, slice_get-is}
+use Rattle.pilot_codecs.specs.Reading.{are_used}
+use Rattle.pilot_codecs.proofs.DictLemmas.{same_bool, are_below-at, are_used-at, are_used-from, is_among-nil, marked_more}
 use Rattle.std.proofs.lemmas.List.{take_all, length-set}
 use Rattle.pilot_codecs.proofs.DictLemmas.{some_is}
 use Rattle.pilot_codecs.proofs.entries.are_all_used.Goals as goal
@@ -45,5 +41,5 @@ returns c =
     let marks = λ (d : ℕ) (lt : d < c.args.size). ap (λ (bs : List Bool). get_or bs d false) items ∙ c.loop-i.invariant.marked d lt ∙ ap (λ (xs : List ℕ). is_among d xs) all in
     let size : length c.deref.result.now ≡ c.args.size = ap length items ∙ c.loop-i.invariant.len in
     same_bool c.are_all_set.result (are_used c.args.size ps)
-      (λ t. are_used-from c.args.size ps (λ d lt. sym (marks d lt) ∙ c.are_all_set.ensures.0 t d (omega (arith, size, lt))))
-      (λ t. c.are_all_set.ensures.1 (λ d lt. marks d (omega (arith, size, lt)) ∙ are_used-at c.args.size ps d t (omega (arith, size, lt))))
+    (λ t. are_used-from c.args.size ps (λ d lt. sym (marks d lt) ∙ c.are_all_set.ensures.0 t d (omega (arith, size, lt))))
+    (λ t. c.are_all_set.ensures.1 (λ d lt. marks d (omega (arith, size, lt)) ∙ are_used-at c.args.size ps d t (omega (arith, size, lt))))

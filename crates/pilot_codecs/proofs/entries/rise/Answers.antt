@@ -1,12 +1,6 @@
-use Rattle.std.proofs.Common.{◌≡◌, ℕ, ◌+◌, ◌-◌, ◌*◌, ◌/◌, ◌%◌, ◌^◌, ◌<◌, ◌≤◌, ◌++◌, min, List, [], ◌∷◌, Bool, true, false, length, take, drop, set, get_or, map, Some, None, Ok, Err, refl, sym, ap, ◌∙◌, subst, append_assoc, inl, inr, arith}
-use Rattle.std.specs.List.{flat_map, slice_get}
-use Rattle.elias_fano.specs.Spelling.{number, is_among}
-use Rattle.elias_fano.specs.Reading.{Gives, Fails, fault, number_at, words_in}
-use Rattle.elias_fano.proofs.ValueLemmas.{slice_get-some, slice_get-is, slice_get-none}
-use Rattle.pilot_codecs.specs.Spelling.{compact_text, dict_text}
-use Rattle.pilot_codecs.specs.Reading.{rise_from, rise_len, are_below, are_used, looked_up, used_at, indexed_at, entries_at, dict_at, compact_at}
-use Rattle.pilot_codecs.specs.Parts.{IsDict}
-use Rattle.pilot_codecs.proofs.DictLemmas.{same_bool, rise_first, rise_step, rise_stop, rise_len-nil, rise_from-nil, are_below-step, are_below-stop, are_below-nil, are_below-at, are_used-at, are_used-from, is_among-nil, marked_more}
+use Rattle.std.proofs.Common.{◌≡◌, ℕ, ◌+◌, ◌-◌, List, length, drop, get_or, ap, ◌∙◌, inl, inr, arith}
+use Rattle.pilot_codecs.specs.Reading.{rise_from, rise_len}
+use Rattle.pilot_codecs.proofs.DictLemmas.{rise_first, rise_step, rise_stop, rise_len-nil, rise_from-nil}
 use Rattle.std.proofs.lemmas.List.{nil_from_length, drop_all}
 use Rattle.std.proofs.lemmas.Bool.{cases_lt}
 use Rattle.pilot_codecs.proofs.entries.rise.Goals as goal
@@ -35,7 +29,7 @@ returns c =
     let i = c.loop-i.i in
     elim (cases_lt 0 (length ds)) [
       | inl some ↦
-        let done = ap (λ (xs : List ℕ). rise_from (get_or ds (i - 1) 0) xs) (drop_all i ds c.loop-i-test.false) ∙ rise_from-nil (get_or ds (i - 1) 0) in
-        omega (arith, c.loop-i.invariant some, done, c.loop-i-test.false, c.loop-i.auto.i-end some)
+          let done = ap (λ (xs : List ℕ). rise_from (get_or ds (i - 1) 0) xs) (drop_all i ds c.loop-i-test.false) ∙ rise_from-nil (get_or ds (i - 1) 0) in
+          omega (arith, c.loop-i.invariant some, done, c.loop-i-test.false, c.loop-i.auto.i-end some)
       | inr none ↦ omega (arith, ap (λ (xs : List ℕ). rise_len xs) (nil_from_length ds (omega (arith, none))), rise_len-nil)
     ]

@@ -1,6 +1,5 @@
-use Rattle.std.proofs.Common.{◌≡◌, ℕ, ◌+◌, ◌-◌, ◌*◌, ◌^◌, ◌<◌, ◌≤◌, true, false, length, take, drop, get_or}
-use Rattle.elias_fano.specs.Spelling.{is_among}
-use Rattle.pilot_codecs.specs.Reading.{rise_from, rise_len, are_below, are_used}
+use Rattle.std.proofs.Common.{◌≡◌, ◌+◌, ◌-◌, ◌<◌, length, drop, get_or}
+use Rattle.pilot_codecs.specs.Reading.{rise_from, rise_len}
 use Rattle.pilot_codecs.proofs.entries.rise.Given as goal
 
 abbrev pub invariant-loop-i : goal.invariant-loop-i

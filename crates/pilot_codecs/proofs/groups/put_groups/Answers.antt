@@ -1,10 +1,6 @@
-use Rattle.std.proofs.Common.{◌≡◌, ℕ, ◌+◌, ◌-◌, ◌*◌, ◌/◌, ◌%◌, ◌^◌, ◌<◌, ◌≤◌, ◌++◌, min, List, [], ◌∷◌, Bool, true, false, length, take, drop, get_or, Some, None, Ok, Err, refl, sym, ap, ◌∙◌, subst, append_assoc, inl, inr, arith}
-use Rattle.std.specs.List.{flat_map, slice_get}
-use Rattle.elias_fano.specs.Reading.{Gives, Fails}
-use Rattle.pilot_codecs.specs.Spelling.{compact_text, groups_for, groups_of, parted_text}
-use Rattle.pilot_codecs.specs.Reading.{compact_at, groups_at, parted_at}
-use Rattle.pilot_codecs.specs.Parts.{IsParted}
-use Rattle.pilot_codecs.proofs.GroupLemmas.{groups_for-more, length-groups_of, flat-groups_of, groups_of-more, groups_of-none, slice_get-group, with_front, goes_on, ends, is_done}
+use Rattle.std.proofs.Common.{◌≡◌, ◌++◌, take}
+use Rattle.std.specs.List.{flat_map}
+use Rattle.pilot_codecs.specs.Spelling.{compact_text}
 use Rattle.pilot_codecs.proofs.GroupLaws.{kept_through}
 use Rattle.pilot_codecs.proofs.groups.put_groups.Goals as goal
 

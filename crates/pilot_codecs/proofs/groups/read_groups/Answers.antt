@@ -1,10 +1,7 @@
-use Rattle.std.proofs.Common.{◌≡◌, ℕ, ◌+◌, ◌-◌, ◌*◌, ◌/◌, ◌%◌, ◌^◌, ◌<◌, ◌≤◌, ◌++◌, min, List, [], ◌∷◌, Bool, true, false, length, take, drop, get_or, Some, None, Ok, Err, refl, sym, ap, ◌∙◌, subst, append_assoc, inl, inr, arith}
-use Rattle.std.specs.List.{flat_map, slice_get}
-use Rattle.elias_fano.specs.Reading.{Gives, Fails}
-use Rattle.pilot_codecs.specs.Spelling.{compact_text, groups_for, groups_of, parted_text}
-use Rattle.pilot_codecs.specs.Reading.{compact_at, groups_at, parted_at}
-use Rattle.pilot_codecs.specs.Parts.{IsParted}
-use Rattle.pilot_codecs.proofs.GroupLemmas.{groups_for-more, length-groups_of, flat-groups_of, groups_of-more, groups_of-none, slice_get-group, with_front, goes_on, ends, is_done}
+use Rattle.std.proofs.Common.{◌≡◌, ℕ, ◌+◌, ◌-◌, ◌≤◌, min, List, length, ap, ◌∙◌, arith}
+use Rattle.pilot_codecs.specs.Spelling.{compact_text, groups_for}
+use Rattle.pilot_codecs.specs.Reading.{groups_at}
+use Rattle.pilot_codecs.proofs.GroupLemmas.{with_front, goes_on, ends, is_done}
 use Rattle.std.proofs.lemmas.List.{length-append}
 use Rattle.pilot_codecs.proofs.CompactLaws.{compact_takes}
 use Rattle.pilot_codecs.proofs.groups.read_groups.Goals.{then-left-lt-GROUP, else-left-lt-GROUP}
@@ -30,7 +27,7 @@ loop-left-preserved c =
     let shorter : length c.in_ok-group.after.now ≤ length c.loop-left.rest.now = omega (arith, ap length t.taken.parts, length-append (compact_text c.in_ok-group.group) c.in_ok-group.after.now) in
     record {
       so_far = ap (λ (gs : List (List ℕ)). with_front gs (groups_at (groups_for (c.loop-left.left - c.if-left-lt-GROUP.size)) (c.loop-left.place + (length c.loop-left.rest.now - length c.in_ok-group.after.now)) (c.loop-left.left - c.if-left-lt-GROUP.size) c.in_ok-group.after.now)) c.in_ok-push.ensures.items
-        ∙ goes_on c.loop-left.groups.items c.loop-left.left c.loop-left.place c.if-left-lt-GROUP.size c.loop-left.rest.now c.in_ok-group.group c.in_ok-group.after.now (groups_at (groups_for c.args.count) c.args.at c.args.count c.args.bytes.now) c.loop-left-test.true s c.in_ok-group.ensures c.loop-left.invariant.so_far;
+          ∙ goes_on c.loop-left.groups.items c.loop-left.left c.loop-left.place c.if-left-lt-GROUP.size c.loop-left.rest.now c.in_ok-group.group c.in_ok-group.after.now (groups_at (groups_for c.args.count) c.args.at c.args.count c.args.bytes.now) c.loop-left-test.true s c.in_ok-group.ensures c.loop-left.invariant.so_far;
       few = omega (arith, c.loop-left.invariant.few);
       places = omega (arith, c.loop-left.invariant.places, shorter);
       fits = t.taken.rest_fits;

@@ -9,7 +9,7 @@ invariant-loop-left l = record {
   so_far : with_front l.groups.items (groups_at (groups_for l.left) l.place l.left l.rest) ≡ groups_at (groups_for l.count) l.at l.count l.bytes;
   few : l.left ≤ 2 ^ 30;
   places : l.place + length l.rest ≡ l.at + length l.bytes;
-  fits : (i : ℕ) → get_or l.rest i 0 < 256
+  fits : (i : ℕ) → get_or l.rest i 0 < 256;
 }
 
 abbrev pub decreases-loop-left : goal.decreases-loop-left

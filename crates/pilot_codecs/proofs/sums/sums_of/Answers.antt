@@ -1,12 +1,7 @@
-use Rattle.std.proofs.Common.{◌≡◌, ℕ, suc, ◌+◌, ◌-◌, ◌*◌, ◌/◌, ◌%◌, ◌^◌, ◌<◌, ◌≤◌, ◌++◌, List, [], ◌∷◌, Bool, true, false, length, take, drop, get_or, Some, None, Ok, Err, refl, sym, ap, ◌∙◌, subst, append_assoc, inl, inr, arith}
-use Rattle.std.specs.List.{slice_get}
-use Rattle.elias_fano.specs.Spelling.{rises, last_of, ef_text, IsRising}
-use Rattle.elias_fano.specs.Reading.{Gives, Fails, list_at}
-use Rattle.elias_fano.proofs.ValueLemmas.{slice_get-some, slice_get-is, slice_get-none}
-use Rattle.pilot_codecs.specs.Spelling.{greatest, sums_from}
-use Rattle.pilot_codecs.specs.Reading.{steps_from, sums_at}
+use Rattle.std.proofs.Common.{ℕ, ◌+◌, ◌++◌, List, [], ◌∷◌, take, get_or, refl, sym, ap, ◌∙◌, arith}
+use Rattle.pilot_codecs.specs.Spelling.{sums_from}
 use Rattle.pilot_codecs.proofs.FieldLemmas.{get_or-le-greatest}
-use Rattle.pilot_codecs.proofs.SumLemmas.{total, total-more, sums_from-more, sums_from-nil, length-sums_from, rises-sums_from, steps_from-sums_from, sums_from-steps_from, length-steps_from, slice_get-steps_first, slice_get-steps, sums_at-fails, sums_at-ok}
+use Rattle.pilot_codecs.proofs.SumLemmas.{total-more, sums_from-more, sums_from-nil}
 use Rattle.pilot_codecs.proofs.sums.sums_of.Goals as goal
 
 pub loop-value-init : goal.loop-value-init

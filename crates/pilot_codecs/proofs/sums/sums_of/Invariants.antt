@@ -7,5 +7,5 @@ abbrev pub invariant-loop-value : goal.invariant-loop-value
 invariant-loop-value l = record {
   so_far : l.sums.items ≡ sums_from 0 (take l.value-index l.values);
   total_is : l.total ≡ total (take l.value-index l.values);
-  most : l.total ≤ l.value-index * 2 ^ 32
+  most : l.total ≤ l.value-index * 2 ^ 32;
 }

@@ -1,13 +1,8 @@
-use Rattle.std.proofs.Common.{◌≡◌, ℕ, ◌+◌, ◌-◌, ◌*◌, ◌/◌, ◌%◌, ◌^◌, ◌<◌, ◌≤◌, ◌++◌, max, List, [], ◌∷◌, Bool, true, false, length, take, drop, get_or, Some, None, Ok, Err, refl, sym, ap, ◌∙◌, subst, append_assoc, inl, inr, arith}
-use Rattle.std.specs.List.{flat_map, slice_get}
-use Rattle.bit_vector.specs.Bits.{bits_of, number_of, words_for, words_number, packed, IsPacked}
-use Rattle.elias_fano.specs.Spelling.{number, run, low_bits}
-use Rattle.elias_fano.specs.Reading.{Gives, Fails, fault, number_at, words_in}
-use Rattle.pilot_codecs.specs.Spelling.{digits_of, greatest, compact_text}
-use Rattle.pilot_codecs.specs.Reading.{fields, fields_in, packed_at, compact_at}
-use Rattle.pilot_codecs.specs.Parts.{IsCompact}
-use Rattle.pilot_codecs.proofs.FieldLemmas.{digits_of-none, digits_of-is, digits_of-le, digits_of-pos, lt-digits_of, greatest-nil, get_or-le-greatest, length-fields, get_or-fields}
-use Rattle.pilot_codecs.proofs.CompactLemmas.{greatest-more, place_fits, field_at, compact_made, compact_text-fields, packed_at-short, packed_at-width, packed_at-padding, packed_at-ok, compact_at-number, compact_at-width, compact_at-packed}
+use Rattle.std.proofs.Common.{◌≡◌, ℕ, ◌*◌, ◌^◌, ◌<◌, List, length, take, get_or, sym, ap, ◌∙◌, subst, arith}
+use Rattle.elias_fano.specs.Spelling.{low_bits}
+use Rattle.pilot_codecs.specs.Spelling.{digits_of, greatest}
+use Rattle.pilot_codecs.proofs.FieldLemmas.{lt-digits_of, get_or-le-greatest}
+use Rattle.pilot_codecs.proofs.CompactLemmas.{compact_made}
 use Rattle.std.proofs.Math.Nat.{mod-eq_of_lt}
 use Rattle.std.proofs.lemmas.Nat.{mul-le}
 use Rattle.std.proofs.lemmas.List.{length-take-le, take_all}
@@ -49,11 +44,11 @@ invariant_of-result c =
     let vs = c.args.values.now in
     let so_far : c.loop-value.bits ≡ low_bits c.digits-width.result (take c.loop-value.value-index vs) = c.loop-value.invariant in
     (compact_made vs c.digits-width.result c.loop-value.bits c.requires (omega (arith, c.greatest_of.ensures)) (c.digits-width.ensures.value ∙ ap (λ (x : ℕ). digits_of x) c.greatest_of.ensures)
-      (so_far ∙ ap (λ (xs : List ℕ). low_bits c.digits-width.result xs) (take_all c.loop-value.value-index vs c.loop-value-test.false))).0
+    (so_far ∙ ap (λ (xs : List ℕ). low_bits c.digits-width.result xs) (take_all c.loop-value.value-index vs c.loop-value-test.false))).0
 
 pub returns : goal.returns
 returns c =
     let vs = c.args.values.now in
     let so_far : c.loop-value.bits ≡ low_bits c.digits-width.result (take c.loop-value.value-index vs) = c.loop-value.invariant in
     (compact_made vs c.digits-width.result c.loop-value.bits c.requires (omega (arith, c.greatest_of.ensures)) (c.digits-width.ensures.value ∙ ap (λ (x : ℕ). digits_of x) c.greatest_of.ensures)
-      (so_far ∙ ap (λ (xs : List ℕ). low_bits c.digits-width.result xs) (take_all c.loop-value.value-index vs c.loop-value-test.false))).1
+    (so_far ∙ ap (λ (xs : List ℕ). low_bits c.digits-width.result xs) (take_all c.loop-value.value-index vs c.loop-value-test.false))).1

@@ -1,15 +1,11 @@
-use Rattle.std.proofs.Common.{◌≡◌, ℕ, ◌+◌, ◌-◌, ◌*◌, ◌/◌, ◌%◌, ◌^◌, ◌<◌, ◌≤◌, ◌++◌, max, List, [], ◌∷◌, Bool, true, false, length, take, drop, get_or, Some, None, Ok, Err, refl, sym, ap, ◌∙◌, subst, append_assoc, inl, inr, arith}
-use Rattle.std.specs.List.{flat_map, slice_get}
-use Rattle.bit_vector.specs.Bits.{bits_of, number_of, words_for, words_number, packed, IsPacked}
-use Rattle.elias_fano.specs.Spelling.{number, run, low_bits}
-use Rattle.elias_fano.specs.Reading.{Gives, Fails, fault, number_at, words_in}
-use Rattle.pilot_codecs.specs.Spelling.{digits_of, greatest, compact_text}
-use Rattle.pilot_codecs.specs.Reading.{fields, fields_in, packed_at, compact_at}
-use Rattle.pilot_codecs.specs.Parts.{IsCompact}
-use Rattle.pilot_codecs.proofs.FieldLemmas.{digits_of-none, digits_of-is, digits_of-le, digits_of-pos, lt-digits_of, greatest-nil, get_or-le-greatest, length-fields, get_or-fields}
-use Rattle.pilot_codecs.proofs.CompactLemmas.{greatest-more, place_fits, field_at, compact_made, compact_text-fields, packed_at-short, packed_at-width, packed_at-padding, packed_at-ok, compact_at-number, compact_at-width, compact_at-packed}
+use Rattle.std.proofs.Common.{◌≡◌, ℕ, ◌*◌, List, length, take, drop, get_or, Some, sym, ap, ◌∙◌, arith}
+use Rattle.std.specs.List.{slice_get}
+use Rattle.bit_vector.specs.Bits.{number_of}
+use Rattle.pilot_codecs.specs.Spelling.{greatest}
+use Rattle.pilot_codecs.specs.Reading.{fields}
+use Rattle.pilot_codecs.proofs.FieldLemmas.{digits_of-le, length-fields, get_or-fields}
+use Rattle.pilot_codecs.proofs.CompactLemmas.{place_fits}
 use Rattle.elias_fano.proofs.ValueLemmas.{slice_get-none, slice_get-is}
-use Rattle.std.proofs.lemmas.Nat.{mul-le}
 use Rattle.pilot_codecs.proofs.compact.Compact.get.Goals as goal
 
 pub returns-then-i-self : goal.returns-then-i-self

@@ -1,10 +1,7 @@
-use Rattle.std.proofs.Common.{◌≡◌, ℕ, ◌+◌, ◌-◌, ◌*◌, ◌/◌, ◌%◌, ◌^◌, ◌<◌, ◌≤◌, ◌++◌, min, List, [], ◌∷◌, Bool, true, false, length, take, drop, get_or, Some, None, Ok, Err, refl, sym, ap, ◌∙◌, subst, append_assoc, inl, inr, arith}
-use Rattle.std.specs.List.{flat_map, slice_get}
-use Rattle.elias_fano.specs.Reading.{Gives, Fails}
-use Rattle.pilot_codecs.specs.Spelling.{compact_text, groups_for, groups_of, parted_text}
-use Rattle.pilot_codecs.specs.Reading.{compact_at, groups_at, parted_at}
-use Rattle.pilot_codecs.specs.Parts.{IsParted}
-use Rattle.pilot_codecs.proofs.GroupLemmas.{groups_for-more, length-groups_of, flat-groups_of, groups_of-more, groups_of-none, slice_get-group, with_front, goes_on, ends, is_done}
+use Rattle.std.proofs.Common.{◌≡◌, ℕ, ◌<◌, ◌++◌, List, [], ◌∷◌, length, take, drop, sym, ap, ◌∙◌, append_assoc, arith}
+use Rattle.std.specs.List.{flat_map}
+use Rattle.pilot_codecs.specs.Spelling.{groups_for, groups_of}
+use Rattle.pilot_codecs.proofs.GroupLemmas.{flat-groups_of, groups_of-more, groups_of-none}
 use Rattle.std.proofs.Math.Nat.{min_comm}
 use Rattle.std.proofs.lemmas.Bool.{eqb-true, eqb-false}
 use Rattle.std.proofs.lemmas.List.{take_min, drop_min, length-drop, append-nil}
@@ -18,8 +15,8 @@ loop-rest-preserved c =
     let back : c.split_at.result.1.now ≡ drop 256 rest = c.split_at.ensures.back ∙ ap (λ (k : ℕ). drop k rest) (c.min.ensures ∙ min_comm (length rest) 256) ∙ drop_min 256 rest in
     record {
       so_far = rw (back, c.in_ok-push.ensures.items, front)
-        (append_assoc c.loop-rest.groups.items (take 256 rest ∷ []) (groups_of (groups_for (length (drop 256 rest))) (drop 256 rest))
-        ∙ ap (λ (gs : List (List ℕ)). c.loop-rest.groups.items ++ gs) (sym (groups_of-more rest lt)) ∙ c.loop-rest.invariant.so_far);
+          (append_assoc c.loop-rest.groups.items (take 256 rest ∷ []) (groups_of (groups_for (length (drop 256 rest))) (drop 256 rest))
+          ∙ ap (λ (gs : List (List ℕ)). c.loop-rest.groups.items ++ gs) (sym (groups_of-more rest lt)) ∙ c.loop-rest.invariant.so_far);
       few = omega (arith, c.loop-rest.invariant.few, ap length back, length-drop 256 rest);
     }
 

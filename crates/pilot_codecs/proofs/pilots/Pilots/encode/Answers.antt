@@ -1,12 +1,5 @@
-use Rattle.std.proofs.Common.{◌≡◌, ℕ, ◌+◌, ◌-◌, ◌*◌, ◌/◌, ◌%◌, ◌^◌, ◌<◌, ◌≤◌, ◌++◌, List, [], ◌∷◌, Bool, true, false, length, take, drop, get_or, Some, None, Ok, Err, refl, sym, ap, ◌∙◌, subst, append_assoc, inl, inr, arith}
-use Rattle.pthash.specs.Sizes.{front_count_of}
-use Rattle.elias_fano.specs.Reading.{Gives, Fails}
-use Rattle.elias_fano.proofs.FormLemmas.{IsBytes-drop}
+use Rattle.std.proofs.Common.{ℕ, ◌-◌, ◌^◌, ◌<◌, List, get_or, ap, arith}
 use Rattle.pilot_codecs.specs.Spelling.{greatest}
-use Rattle.pilot_codecs.specs.Reading.{code_at}
-use Rattle.pilot_codecs.specs.Values.{values_of, code_of}
-use Rattle.pilot_codecs.specs.Encoded.{pair_at, IsSplit, IsSpelled}
-use Rattle.pilot_codecs.proofs.CodeLaws.{code_takes, split_takes, spelled_at, spelled_again, spelled_same, spelled_once}
 use Rattle.pilot_codecs.proofs.DictLaws.{greatest_within}
 use Rattle.pilot_codecs.proofs.GroupLaws.{greatest-take, greatest-drop}
 use Rattle.pilot_codecs.proofs.pilots.Pilots.encode.Goals as goal

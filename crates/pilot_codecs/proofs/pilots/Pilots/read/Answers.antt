@@ -1,12 +1,7 @@
-use Rattle.std.proofs.Common.{◌≡◌, ℕ, ◌+◌, ◌-◌, ◌*◌, ◌/◌, ◌%◌, ◌^◌, ◌<◌, ◌≤◌, ◌++◌, List, [], ◌∷◌, Bool, true, false, length, take, drop, get_or, Some, None, Ok, Err, refl, sym, ap, ◌∙◌, subst, append_assoc, inl, inr, arith}
-use Rattle.pthash.specs.Sizes.{front_count_of}
-use Rattle.elias_fano.specs.Reading.{Gives, Fails}
+use Rattle.std.proofs.Common.{◌≡◌, ℕ, List, drop, Ok, sym, ap, ◌∙◌, arith}
 use Rattle.elias_fano.proofs.FormLemmas.{IsBytes-drop}
-use Rattle.pilot_codecs.specs.Spelling.{greatest}
-use Rattle.pilot_codecs.specs.Reading.{code_at}
-use Rattle.pilot_codecs.specs.Values.{values_of, code_of}
-use Rattle.pilot_codecs.specs.Encoded.{pair_at, IsSplit, IsSpelled}
-use Rattle.pilot_codecs.proofs.CodeLaws.{code_takes, split_takes, spelled_at, spelled_again, spelled_same, spelled_once}
+use Rattle.pilot_codecs.specs.Encoded.{pair_at}
+use Rattle.pilot_codecs.proofs.CodeLaws.{split_takes, spelled_at, spelled_again, spelled_same, spelled_once}
 use Rattle.std.proofs.lemmas.Result.{err_from_is_err_and}
 use Rattle.std.proofs.lemmas.List.{take_rest}
 use Rattle.elias_fano.proofs.LawLemmas.{fails_not}
