@@ -21,23 +21,23 @@ use Rattle.elias_fano.proofs.TextLemmas.{values-length, values-rising, ef_text-v
 use Rattle.elias_fano.proofs.FormLemmas.{IsBytes, IsBytes-drop, IsBytes-take, packed_if_clear, number_lt, number_at-ok, run_at-ok, checked-ok, parts_at-ok, list_at-parts}
 
 -- the value of a step that did not fail
-bind_ok : {A B : Type 0} (r : Result A FormFault) (f : A → Result B FormFault) (y : B) → (r >>= f) ≡ Ok y → (x : A) × (r ≡ Ok x) × (f x ≡ Ok y)
+pub bind_ok : {A B : Type 0} (r : Result A FormFault) (f : A → Result B FormFault) (y : B) → (r >>= f) ≡ Ok y → (x : A) × (r ≡ Ok x) × (f x ≡ Ok y)
 bind_ok (Ok x) f y e = (x, refl, e)
 bind_ok (Err d) f y e = absurd cc
 
 -- a test that did not fail
-guard_ok : {B : Type 0} (b : Bool) (d : FormFault) (r : Result B FormFault) (y : B) → cond b (Err d) r ≡ Ok y → (b ≡ false) × (r ≡ Ok y)
+pub guard_ok : {B : Type 0} (b : Bool) (d : FormFault) (r : Result B FormFault) (y : B) → cond b (Err d) r ≡ Ok y → (b ≡ false) × (r ≡ Ok y)
 guard_ok true d r y e = absurd cc
 guard_ok false d r y e = (refl, e)
 
-guard_last : {B : Type 0} (b : Bool) (d : FormFault) (x y : B) → cond b (Ok x) (Err d) ≡ Ok y → (b ≡ true) × (x ≡ y)
+pub guard_last : {B : Type 0} (b : Bool) (d : FormFault) (x y : B) → cond b (Ok x) (Err d) ≡ Ok y → (b ≡ true) × (x ≡ y)
 guard_last true d x y e = (refl, cc)
 guard_last false d x y e = absurd cc
 
-abbrev done : {A : Type 0} → A → Result A FormFault
+abbrev pub done : {A : Type 0} → A → Result A FormFault
 done x = Ok x
 
-ok_is : {A : Type 0} (x y : A) → done x ≡ done y → x ≡ y
+pub ok_is : {A : Type 0} (x y : A) → done x ≡ done y → x ≡ y
 ok_is x y e = cc
 
 -- what a reader took from the front
@@ -45,10 +45,10 @@ pub record Takes (bytes text rest : List ℕ) : Type 0 where
   pub parts : bytes ≡ text ++ rest
   pub rest_fits : IsBytes rest
 
-Takes-then : (a x b y c : List ℕ) → Takes a x b → Takes b y c → Takes a (x ++ y) c
+pub Takes-then : (a x b y c : List ℕ) → Takes a x b → Takes b y c → Takes a (x ++ y) c
 Takes-then a x b y c p q = record { parts = p.parts ∙ ap (λ (t : List ℕ). x ++ t) q.parts ∙ sym (append_assoc x y c); rest_fits = q.rest_fits }
 
-number_takes : (at : ℕ) (bytes : List ℕ) (n : ℕ) (rest : List ℕ) → IsBytes bytes → number_at at bytes ≡ Ok (n, rest) → Takes bytes (number n) rest × (n < 2 ^ 64)
+pub number_takes : (at : ℕ) (bytes : List ℕ) (n : ℕ) (rest : List ℕ) → IsBytes bytes → number_at at bytes ≡ Ok (n, rest) → Takes bytes (number n) rest × (n < 2 ^ 64)
 unfolding number_at
 number_takes at bytes n rest fits e =
     let g = guard_ok (ltb (length bytes) 8) (fault at 1) (Ok (from_le_bytes w64 (take 8 bytes), drop 8 bytes)) (n, rest) e in
@@ -66,7 +66,7 @@ number_again at n rest lt =
     let e = number_at-ok at (number n ++ rest) n (omega (arith, length-append (number n) rest)) (sym (from_le_bytes-to_le_bytes_8 n lt)) in
     e ∙ ap (λ (t : List ℕ). Ok (n, t)) (take_rest (number n ++ rest) 8)
 
-words_written : (k : ℕ) (bytes : List ℕ) → IsBytes bytes → 8 * k ≤ length bytes → flat_map number (words_in k bytes) ++ drop (8 * k) bytes ≡ bytes
+pub words_written : (k : ℕ) (bytes : List ℕ) → IsBytes bytes → 8 * k ≤ length bytes → flat_map number (words_in k bytes) ++ drop (8 * k) bytes ≡ bytes
 unfolding words_in
 words_written zero bytes fits le = refl
 words_written (suc k) bytes fits le =
@@ -80,13 +80,13 @@ words_written (suc k) bytes fits le =
     ∙ ap (λ (t : List ℕ). t ++ drop 8 bytes) front
     ∙ take-append-drop 8 bytes
 
-words_again : (ws rest : List ℕ) → ((i : ℕ) → get_or ws i 0 < 2 ^ 64) → words_in (length ws) (flat_map number ws ++ rest) ≡ ws
+pub words_again : (ws rest : List ℕ) → ((i : ℕ) → get_or ws i 0 < 2 ^ 64) → words_in (length ws) (flat_map number ws ++ rest) ≡ ws
 unfolding words_in
 words_again [] rest fits = refl
 words_again (w ∷ ws) rest fits =
     ap (λ (x : ℕ). x ∷ words_in (length ws) (flat_map number ws ++ rest)) (from_le_bytes-to_le_bytes_8 w (fits 0)) ∙ ap (λ (xs : List ℕ). w ∷ xs) (words_again ws rest (λ i. fits (suc i)))
 
-length-numbers : (ws : List ℕ) → length (flat_map number ws) ≡ 8 * length ws
+pub length-numbers : (ws : List ℕ) → length (flat_map number ws) ≡ 8 * length ws
 length-numbers [] = refl
 length-numbers (w ∷ ws) = omega (arith, length-append (number w) (flat_map number ws), length-numbers ws)
 

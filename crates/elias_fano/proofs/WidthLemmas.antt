@@ -15,7 +15,7 @@ log2_is (suc most) n (suc r) small low high =
     let q = pow-suc 2 (suc most) in
     rw (le-ltb n 2 (omega (arith, p, pow_pos r))) (ap (λ (x : ℕ). x + 1) (log2_is most (n / 2) r (omega (arith, q)) (omega (arith, p)) (omega (arith, p))) ∙ omega arith)
 
-log2-le : (most n : ℕ) → log2_within most n ≤ most
+pub log2-le : (most n : ℕ) → log2_within most n ≤ most
 unfolding log2_within
 log2-le zero n = omega arith
 log2-le (suc most) n =

@@ -7,7 +7,7 @@ ghost use Rattle.elias_fano.specs.Reading.{Gives, list_at, IsSpelled};
 use crate::build::{high_part, last_value, low_part};
 use crate::fault::ReadErr;
 use crate::parts::{part_at, width_of};
-use crate::reading::list_of;
+use crate::reading::read_list;
 use crate::writing::put_list;
 use bit_vector::{BitVec, NoMemory, Selector};
 use std::alloc::Global;
@@ -123,7 +123,7 @@ impl EliasFano {
             (list_at at count (drop at bytes.now)) }
     {
         let rest = &bytes[at..];
-        let (list, rest) = list_of(alloc, at as u64, count, rest)?;
+        let (list, rest) = read_list(alloc, at as u64, count, rest)?;
         Ok((list, bytes.len() - rest.len()))
     }
 }

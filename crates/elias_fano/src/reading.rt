@@ -26,7 +26,8 @@ fn number_in(bytes: &[u8], at: usize) -> u64
     u64::from_le_bytes([b[0], b[1], b[2], b[3], b[4], b[5], b[6], b[7]])
 }
 
-fn number_of(at: u64, bytes: &[u8]) -> Result<(u64, &[u8]), ReadErr>
+/// The number that bytes begin with, where their place is known, and the bytes after it.
+pub fn read_number(at: u64, bytes: &[u8]) -> Result<(u64, &[u8]), ReadErr>
     ensures { Gives (λ x. (x.0, x.1.now)) result (number_at at bytes.now) }
 {
     if bytes.len() < 8 {
@@ -35,8 +36,8 @@ fn number_of(at: u64, bytes: &[u8]) -> Result<(u64, &[u8]), ReadErr>
     Ok((number_in(bytes, 0), &bytes[8..]))
 }
 
-// As many words as are asked for.
-fn words_of(alloc: Global, bytes: &[u8], count: usize) -> Result<Vec<u64>, NoMemory>
+/// As many numbers as are asked for.
+pub fn read_words(alloc: Global, bytes: &[u8], count: usize) -> Result<Vec<u64>, NoMemory>
     requires { 8 * count ≤ length bytes.now }
     ensures { IfOk result (λ v. v.items ≡ words_in count bytes.now) }
 {
@@ -56,7 +57,7 @@ fn run_of(alloc: Global, at: u64, len: u64, bytes: &[u8]) -> Result<(BitVec, &[u
     if (bytes.len() as u64) < 8 * count {
         return Err(form_fault(at, SHORT));
     }
-    let words = words_of(alloc, bytes, count as usize)?;
+    let words = read_words(alloc, bytes, count as usize)?;
     match BitVec::from_words(words, len) {
         None => Err(form_fault(at + 8 * count - 8, PADDING)),
         Some(bits) => Ok((bits, &bytes[8 * count as usize..])),
@@ -119,7 +120,7 @@ fn parts_of(
 }
 
 /// The list of a count that bytes begin with, where their place is known, and the bytes after it.
-pub fn list_of(
+pub fn read_list(
     alloc: Global,
     at: u64,
     count: u64,
@@ -129,7 +130,7 @@ pub fn list_of(
     requires place { at ≤ 2 ^ 63 }
     ensures { Gives (λ x. (x.0, x.1.now)) result (list_at at count bytes.now) }
 {
-    let (last, rest) = number_of(at, bytes)?;
+    let (last, rest) = read_number(at, bytes)?;
     if count == 0 && last != 0 {
         return Err(form_fault(at, LAST));
     }

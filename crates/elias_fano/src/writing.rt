@@ -4,8 +4,8 @@ ghost use Rattle.elias_fano.specs.Spelling.{number, run};
 
 use bit_vector::{BitVec, NoMemory};
 
-// Appends numbers.
-fn put_numbers(out: &mut Vec<u8>, numbers: &[u64]) -> Result<(), NoMemory>
+/// Appends numbers; on want of memory a part of them.
+pub fn put_numbers(out: &mut Vec<u8>, numbers: &[u64]) -> Result<(), NoMemory>
     ensures ok { OnOk result (out.new.items ≡ out.old.items ++ flat_map number numbers.now) }
     ensures kept { take (length out.old.items) out.new.items ≡ out.old.items }
 {

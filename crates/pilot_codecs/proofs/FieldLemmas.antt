@@ -1,0 +1,103 @@
+-- Numbers of one width, and the width of the greatest.
+use Rattle.std.proofs.Common.{◌≡◌, ℕ, zero, suc, ◌+◌, ◌*◌, ◌/◌, ◌^◌, ◌<◌, ◌≤◌, max, Bool, List, [], ◌∷◌, ◌++◌, length, get_or, take, drop, refl, sym, ap, ◌∙◌, inl, inr, arith}
+use Rattle.std.proofs.Math.Nat.{mod-eq_of_lt}
+use Rattle.std.proofs.lemmas.Bool.{cases_lt, lt-ltb, le-ltb}
+use Rattle.std.proofs.Math.Nat.{pow-suc}
+use Rattle.std.proofs.lemmas.List.{drop-drop, take_at, drop_at, take-append-drop, length-take, length-drop, nil_from_length}
+use Rattle.bit_vector.specs.Bits.{bits_of, number_of}
+use Rattle.bit_vector.proofs.BitLemmas.{length-bits_of, bits_of-number_of, number_of-bits_of}
+use Rattle.elias_fano.specs.Spelling.{log2_within, low_bits}
+use Rattle.elias_fano.proofs.WidthLemmas.{log2_is, log2-le}
+use Rattle.pilot_codecs.specs.Spelling.{digits_of, greatest}
+use Rattle.pilot_codecs.specs.Reading.{fields}
+
+-- ---- the width of a number
+
+below_digits : (most n : ℕ) → n < 2 ^ suc most → n < 2 ^ (log2_within most n + 1)
+unfolding log2_within
+below_digits zero n lt = omega (arith, pow-suc 2 0)
+below_digits (suc most) n lt =
+    elim (cases_lt n 2) [
+      | inl small ↦ rw (lt-ltb n 2 small) (omega arith)
+      | inr large ↦
+          let half = below_digits most (n / 2) (omega (arith, pow-suc 2 (suc most))) in
+          let more : 2 ^ (log2_within most (n / 2) + 1 + 1) ≡ 2 ^ (log2_within most (n / 2) + 1) * 2 = ap (λ (j : ℕ). 2 ^ j) (omega arith) ∙ pow-suc 2 (log2_within most (n / 2) + 1) in
+          rw (le-ltb n 2 large) (omega (arith, half, more))
+    ]
+
+pub lt-digits_of : (n : ℕ) → n < 2 ^ 64 → n < 2 ^ digits_of n
+unfolding digits_of
+lt-digits_of n lt = below_digits 63 n lt
+
+pub digits_of-le : (n : ℕ) → digits_of n ≤ 64
+unfolding digits_of
+digits_of-le n = omega (arith, log2-le 63 n)
+
+pub digits_of-pos : (n : ℕ) → 0 < digits_of n
+unfolding digits_of
+digits_of-pos n = omega arith
+
+pub digits_of-none : (n : ℕ) → n ≡ 0 → digits_of n ≡ 1
+unfolding digits_of log2_within
+digits_of-none n e = rw e refl
+
+pub digits_of-is : (n r : ℕ) → n < 2 ^ 64 → 2 ^ r ≤ n → n < 2 * 2 ^ r → digits_of n ≡ r + 1
+unfolding digits_of
+digits_of-is n r lt low high = ap (λ (x : ℕ). x + 1) (log2_is 63 n r lt low high)
+
+-- ---- the greatest value
+
+pub greatest-nil : greatest [] ≡ 0
+unfolding greatest
+greatest-nil = refl
+
+pub greatest-cons : (v : ℕ) (vs : List ℕ) → greatest (v ∷ vs) ≡ max v (greatest vs)
+unfolding greatest
+greatest-cons v vs = refl
+
+pub greatest-push : (vs : List ℕ) (v : ℕ) → greatest (vs ++ v ∷ []) ≡ max (greatest vs) v
+unfolding greatest
+greatest-push [] v = omega arith
+greatest-push (x ∷ vs) v = omega (arith, greatest-push vs v)
+
+pub get_or-le-greatest : (vs : List ℕ) (i : ℕ) → get_or vs i 0 ≤ greatest vs
+unfolding greatest
+get_or-le-greatest [] i = omega arith
+get_or-le-greatest (v ∷ vs) zero = omega arith
+get_or-le-greatest (v ∷ vs) (suc i) = omega (arith, get_or-le-greatest vs i)
+
+-- ---- fields
+
+pub length-fields : (n w : ℕ) (bits : List Bool) → length (fields n w bits) ≡ n
+unfolding fields
+length-fields zero w bits = refl
+length-fields (suc n) w bits = ap suc (length-fields n w (drop w bits))
+
+pub get_or-fields : (n w : ℕ) (bits : List Bool) (i : ℕ) → i < n → get_or (fields n w bits) i 0 ≡ number_of (take w (drop (i * w) bits))
+unfolding fields
+get_or-fields zero w bits i lt = absurd (omega arith)
+get_or-fields (suc n) w bits zero lt = let start : 0 * w ≡ 0 = omega arith in rw start refl
+get_or-fields (suc n) w bits (suc i) lt =
+    let place : w + i * w ≡ suc i * w = omega arith in
+    get_or-fields n w (drop w bits) i (omega arith) ∙ ap (λ (bs : List Bool). number_of (take w bs)) (drop-drop (i * w) w bits ∙ ap (λ (j : ℕ). drop j bits) place)
+
+pub low_bits-fields : (n w : ℕ) (bits : List Bool) → length bits ≡ n * w → low_bits w (fields n w bits) ≡ bits
+unfolding fields low_bits
+low_bits-fields zero w bits e = sym (nil_from_length bits (omega (arith, e)))
+low_bits-fields (suc n) w bits e =
+    let size : length (take w bits) ≡ w = omega (arith, length-take w bits, e) in
+    let first : bits_of w (number_of (take w bits)) ≡ take w bits = ap (λ (j : ℕ). bits_of j (number_of (take w bits))) (sym size) ∙ bits_of-number_of (take w bits) in
+    let others = low_bits-fields n w (drop w bits) (omega (arith, length-drop w bits, e)) in
+    ap (λ (bs : List Bool). bs ++ low_bits w (fields n w (drop w bits))) first ∙ ap (λ (bs : List Bool). take w bits ++ bs) others ∙ take-append-drop w bits
+
+pub fields-low_bits : (w : ℕ) (vs : List ℕ) → greatest vs < 2 ^ w → fields (length vs) w (low_bits w vs) ≡ vs
+unfolding fields low_bits greatest
+fields-low_bits w [] lt = refl
+fields-low_bits w (v ∷ vs) lt =
+    let size = length-bits_of w v in
+    let front : take w (bits_of w v ++ low_bits w vs) ≡ bits_of w v = take_at (bits_of w v) (low_bits w vs) w size in
+    let rest : drop w (bits_of w v ++ low_bits w vs) ≡ low_bits w vs = drop_at (bits_of w v) (low_bits w vs) w size in
+    let first : number_of (take w (bits_of w v ++ low_bits w vs)) ≡ v = ap number_of front ∙ number_of-bits_of w v ∙ mod-eq_of_lt (omega (arith, lt)) in
+    ap (λ (x : ℕ). x ∷ fields (length vs) w (drop w (bits_of w v ++ low_bits w vs))) first
+    ∙ ap (λ (bs : List Bool). v ∷ fields (length vs) w bs) rest
+    ∙ ap (λ (xs : List ℕ). v ∷ xs) (fields-low_bits w vs (omega (arith, lt)))

@@ -1,0 +1,102 @@
+-- Groups of a list, and reading them one after the other, as a loop does.
+use Rattle.std.proofs.Common.{◌≡◌, ℕ, zero, suc, ◌+◌, ◌*◌, ◌-◌, ◌/◌, ◌%◌, ◌<◌, ◌≤◌, min, List, [], ◌∷◌, ◌++◌, length, get_or, take, drop, Result, Ok, Err, refl, sym, ap, ◌∙◌, append_assoc, arith}
+use Rattle.std.specs.List.{flat_map, slice_get}
+use Rattle.std.proofs.lemmas.List.{append-nil, drop-drop, take-append-drop, drop_all, length-drop, length-take, get_or_default}
+use Rattle.elias_fano.specs.declared.fault.FormFault.{FormFault}
+use Rattle.elias_fano.specs.declared.fault.ReadErr.{ReadErr}
+use Rattle.elias_fano.specs.declared.fault.ReadErr.TheVariants as errors
+use Rattle.elias_fano.specs.Reading.{◌>>=◌, Fails}
+use Rattle.pilot_codecs.specs.Spelling.{groups_for, groups_of}
+use Rattle.pilot_codecs.specs.Reading.{compact_at, groups_at}
+
+pub groups_for-more : (count : ℕ) → 0 < count → groups_for count ≡ suc (groups_for (count - 256))
+groups_for-more count lt = omega arith
+
+pub length-groups_of : (n : ℕ) (vs : List ℕ) → length (groups_of n vs) ≡ n
+unfolding groups_of
+length-groups_of zero vs = refl
+length-groups_of (suc n) vs = ap suc (length-groups_of n (drop 256 vs))
+
+pub flat-groups_of : (n : ℕ) (vs : List ℕ) → length vs ≤ 256 * n → flat_map (λ g. g) (groups_of n vs) ≡ vs
+unfolding groups_of
+flat-groups_of zero vs le = sym (Rattle.std.proofs.lemmas.List.nil_from_length vs (omega (arith, le)))
+flat-groups_of (suc n) vs le = ap (λ (xs : List ℕ). take 256 vs ++ xs) (flat-groups_of n (drop 256 vs) (omega (arith, length-drop 256 vs))) ∙ take-append-drop 256 vs
+
+pub groups_of-more : (vs : List ℕ) → 0 < length vs → groups_of (groups_for (length vs)) vs ≡ take 256 vs ∷ groups_of (groups_for (length (drop 256 vs))) (drop 256 vs)
+unfolding groups_of
+groups_of-more vs lt =
+    ap (λ (k : ℕ). groups_of k vs) (groups_for-more (length vs) lt)
+    ∙ ap (λ (k : ℕ). take 256 vs ∷ groups_of (groups_for k) (drop 256 vs)) (sym (length-drop 256 vs))
+
+pub groups_of-none : (vs : List ℕ) → length vs ≡ 0 → groups_of (groups_for (length vs)) vs ≡ []
+unfolding groups_of
+groups_of-none vs e = ap (λ (k : ℕ). groups_of (groups_for k) vs) e
+
+get_or-groups_of : (n : ℕ) (vs : List ℕ) (g : ℕ) (d : List ℕ) → g < n → get_or (groups_of n vs) g d ≡ take 256 (drop (256 * g) vs)
+unfolding groups_of
+get_or-groups_of zero vs g d lt = absurd (omega arith)
+get_or-groups_of (suc n) vs zero d lt = refl
+get_or-groups_of (suc n) vs (suc g) d lt =
+    let place : 256 + 256 * g ≡ 256 * suc g = omega arith in
+    get_or-groups_of n (drop 256 vs) g d (omega arith) ∙ ap (λ (xs : List ℕ). take 256 xs) (drop-drop (256 * g) 256 vs ∙ ap (λ (k : ℕ). drop k vs) place)
+
+slice_get-take : (k : ℕ) (xs : List ℕ) (r : ℕ) → r < k → slice_get (take k xs) r ≡ slice_get xs r
+slice_get-take zero xs r lt = absurd (omega arith)
+slice_get-take (suc k) [] r lt = refl
+slice_get-take (suc k) (x ∷ xs) zero lt = refl
+slice_get-take (suc k) (x ∷ xs) (suc r) lt = slice_get-take k xs r (omega arith)
+
+slice_get-drop : (k : ℕ) (xs : List ℕ) (r i : ℕ) → k + r ≡ i → slice_get (drop k xs) r ≡ slice_get xs i
+slice_get-drop zero xs r i e = ap (λ (j : ℕ). slice_get xs j) (omega arith)
+slice_get-drop (suc k) [] r i e = refl
+slice_get-drop (suc k) (x ∷ xs) r zero e = absurd (omega arith)
+slice_get-drop (suc k) (x ∷ xs) r (suc i) e = slice_get-drop k xs r i (omega arith)
+
+-- a value by its group and its place in the group
+pub slice_get-group : (groups : List (List ℕ)) (vs : List ℕ) (i : ℕ) (group : List ℕ) → groups_of (groups_for (length vs)) vs ≡ groups → i < length vs → group ≡ get_or groups (i / 256) group → slice_get group (i % 256) ≡ slice_get vs i
+slice_get-group groups vs i group cut lt e =
+    let g = i / 256 in
+    let found : group ≡ take 256 (drop (256 * g) vs) = e ∙ ap (λ (gs : List (List ℕ)). get_or gs g group) (sym cut) ∙ get_or-groups_of (groups_for (length vs)) vs g group (omega arith) in
+    ap (λ (xs : List ℕ). slice_get xs (i % 256)) found ∙ slice_get-take 256 (drop (256 * g) vs) (i % 256) (omega arith) ∙ slice_get-drop (256 * g) vs (i % 256) i (omega arith)
+
+-- ---- reading
+
+-- what was read before, and what is still read
+abbrev pub with_front : List (List ℕ) → Result (List (List ℕ) × List ℕ) FormFault → Result (List (List ℕ) × List ℕ) FormFault
+with_front front read = read >>= λ x. Ok (front ++ x.0, x.1)
+
+regroup : (front : List (List ℕ)) (g : List ℕ) (read : Result (List (List ℕ) × List ℕ) FormFault) → with_front front (read >>= λ x. Ok (g ∷ x.0, x.1)) ≡ with_front (front ++ g ∷ []) read
+regroup front g (Ok x) = ap (λ (gs : List (List ℕ)). Ok (gs, x.1)) (simp append_assoc)
+regroup front g (Err f) = refl
+
+size_is : (left size : ℕ) → 0 < left → size ≡ min 256 left → left - size ≡ left - 256
+size_is left size lt e = omega arith
+
+pub goes_on : (front : List (List ℕ)) (left place size : ℕ) (bytes g after : List ℕ) (total : Result (List (List ℕ) × List ℕ) FormFault) → 0 < left → size ≡ min 256 left → compact_at place size bytes ≡ Ok (g, after)
+    → with_front front (groups_at (groups_for left) place left bytes) ≡ total
+    → with_front (front ++ g ∷ []) (groups_at (groups_for (left - size)) (place + (length bytes - length after)) (left - size) after) ≡ total
+unfolding groups_at
+goes_on front left place size bytes g after total lt s h so_far =
+    let k = groups_for-more left lt in
+    let next = size_is left size lt s in
+    let read : compact_at place (min 256 left) bytes ≡ Ok (g, after) = ap (λ (j : ℕ). compact_at place j bytes) (sym s) ∙ h in
+    let one : with_front front (groups_at (groups_for left) place left bytes) ≡ with_front (front ++ g ∷ []) (groups_at (groups_for (left - 256)) (place + (length bytes - length after)) (left - 256) after) =
+    rw (k, read) (regroup front g (groups_at (groups_for (left - 256)) (place + (length bytes - length after)) (left - 256) after)) in
+    ap (λ (j : ℕ). with_front (front ++ g ∷ []) (groups_at (groups_for j) (place + (length bytes - length after)) j after)) next ∙ sym one ∙ so_far
+
+pub ends : (e : ReadErr) (front : List (List ℕ)) (left place size : ℕ) (bytes : List ℕ) (total : Result (List (List ℕ) × List ℕ) FormFault) → 0 < left → size ≡ min 256 left → Fails e (compact_at place size bytes)
+    → with_front front (groups_at (groups_for left) place left bytes) ≡ total → Fails e total
+unfolding groups_at
+ends errors.NoMemory front left place size bytes total lt s h so_far = tt
+ends (errors.Form f) front left place size bytes total lt s h so_far =
+    let k = groups_for-more left lt in
+    let read : compact_at place (min 256 left) bytes ≡ Err f = ap (λ (j : ℕ). compact_at place j bytes) (sym s) ∙ h in
+    let one : with_front front (groups_at (groups_for left) place left bytes) ≡ Err f = rw (k, read) refl in
+    sym so_far ∙ one
+
+pub is_done : (front : List (List ℕ)) (left place : ℕ) (bytes : List ℕ) (total : Result (List (List ℕ) × List ℕ) FormFault) → left ≡ 0 → with_front front (groups_at (groups_for left) place left bytes) ≡ total → total ≡ Ok (front, bytes)
+unfolding groups_at
+is_done front left place bytes total e so_far =
+    let k : groups_for left ≡ 0 = omega arith in
+    let one : with_front front (groups_at (groups_for left) place left bytes) ≡ Ok (front, bytes) = rw k (ap (λ (gs : List (List ℕ)). Ok (gs, bytes)) (append-nil front)) in
+    sym so_far ∙ one

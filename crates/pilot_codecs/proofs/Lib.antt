@@ -1,0 +1,12 @@
+pub mod FieldLemmas
+pub mod CompactLemmas
+pub mod CompactLaws
+pub mod GroupLemmas
+pub mod GroupLaws
+pub mod DictLemmas
+pub mod DictLaws
+pub mod DictForms
+pub mod SortLemmas
+pub mod DictReads
+pub mod SumLemmas
+pub mod CodeLaws

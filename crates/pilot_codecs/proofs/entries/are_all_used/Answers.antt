@@ -1,0 +1,45 @@
+use Rattle.std.proofs.Common.{◌≡◌, ℕ, ◌<◌, List, Bool, true, false, length, take, get_or, sym, ap, ◌∙◌, arith}
+use Rattle.elias_fano.specs.Spelling.{is_among}
+use Rattle.elias_fano.proofs.ValueLemmas.{slice_get-some, slice_get-is}
+use Rattle.pilot_codecs.specs.Reading.{are_used}
+use Rattle.pilot_codecs.proofs.DictLemmas.{same_bool, are_below-at, are_used-at, are_used-from, is_among-nil, marked_more}
+use Rattle.std.proofs.lemmas.List.{take_all, length-set}
+use Rattle.pilot_codecs.proofs.DictLemmas.{some_is}
+use Rattle.pilot_codecs.proofs.entries.are_all_used.Goals as goal
+
+pub loop-i-init : goal.loop-i-init
+loop-i-init c = record { len = c.in_ok-used.ensures.len; marked = λ d lt. c.in_ok-used.ensures.clear d lt ∙ sym (is_among-nil d) }
+
+pub unwrap-place-requires : goal.unwrap-place-requires
+unwrap-place-requires c = rw c.get.ensures (slice_get-some c.args.places.now c.loop-i.i (omega (arith, c.len-i-end.ensures, c.loop-i-test.true)))
+
+pub index_mut-requires : goal.index_mut-requires
+index_mut-requires c =
+    let ps = c.args.places.now in
+    let i = c.loop-i.i in
+    let lt : i < length ps = omega (arith, c.len-i-end.ensures, c.loop-i-test.true) in
+    let got : c.unwrap-place.result ≡ get_or ps i 0 = some_is c.unwrap-place.result (get_or ps i 0) (sym c.unwrap-place.ensures ∙ c.get.ensures ∙ slice_get-is ps i 0 lt) in
+    omega (arith, got, are_below-at c.args.size ps i c.requires.below lt, c.loop-i.invariant.len, c.loop-i.used.ok.0)
+
+pub loop-i-preserved : goal.loop-i-preserved
+loop-i-preserved c =
+    let ps = c.args.places.now in
+    let i = c.loop-i.i in
+    let lt : i < length ps = omega (arith, c.len-i-end.ensures, c.loop-i-test.true) in
+    let got : c.unwrap-place.result ≡ get_or ps i 0 = some_is c.unwrap-place.result (get_or ps i 0) (sym c.unwrap-place.ensures ∙ c.get.ensures ∙ slice_get-is ps i 0 lt) in
+    record {
+      len = length-set c.loop-i.used.items c.unwrap-place.result true ∙ c.loop-i.invariant.len;
+      marked = marked_more c.loop-i.used.items ps i c.unwrap-place.result c.args.size c.loop-i.invariant.len lt got (omega (arith, got, are_below-at c.args.size ps i c.requires.below lt)) c.loop-i.invariant.marked;
+    }
+
+pub returns : goal.returns
+returns c =
+    let ps = c.args.places.now in
+    let i = c.loop-i.i in
+    let all : take i ps ≡ ps = take_all i ps (omega (arith, c.len-i-end.ensures, c.loop-i-test.false)) in
+    let items : c.deref.result.now ≡ c.loop-i.used.items = c.deref.ensures.value in
+    let marks = λ (d : ℕ) (lt : d < c.args.size). ap (λ (bs : List Bool). get_or bs d false) items ∙ c.loop-i.invariant.marked d lt ∙ ap (λ (xs : List ℕ). is_among d xs) all in
+    let size : length c.deref.result.now ≡ c.args.size = ap length items ∙ c.loop-i.invariant.len in
+    same_bool c.are_all_set.result (are_used c.args.size ps)
+    (λ t. are_used-from c.args.size ps (λ d lt. sym (marks d lt) ∙ c.are_all_set.ensures.0 t d (omega (arith, size, lt))))
+    (λ t. c.are_all_set.ensures.1 (λ d lt. marks d (omega (arith, size, lt)) ∙ are_used-at c.args.size ps d t (omega (arith, size, lt))))

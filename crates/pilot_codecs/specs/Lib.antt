@@ -1,0 +1,5 @@
+pub mod Spelling
+pub mod Reading
+pub mod Parts
+pub mod Values
+pub mod Encoded

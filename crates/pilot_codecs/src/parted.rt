@@ -1,0 +1,93 @@
+ghost use Rattle.std.specs.Prelude.{◌≡◌, ◌+◌, ◌*◌, ◌^◌, ◌<◌, ◌≤◌, ◌++◌, length, take, drop, IfOk, OnOk};
+ghost use Rattle.std.specs.List.{slice_get, flat_map};
+ghost use Rattle.elias_fano.specs.Reading.{Gives};
+ghost use Rattle.pilot_codecs.specs.Spelling.{parted_text, groups_for};
+ghost use Rattle.pilot_codecs.specs.Reading.{parted_at};
+
+use crate::GROUP;
+use crate::compact::Compact;
+use crate::groups::{put_groups, read_groups};
+use bit_vector::NoMemory;
+use elias_fano::ReadErr;
+use std::alloc::Global;
+use std::marker::Model;
+
+/// Groups of 256 numbers, each group in the width of its greatest.
+#[derive(Drop)]
+pub struct Parted {
+    count: u64,
+    groups: Vec<Compact>,
+}
+
+impl Model for Parted {
+    ghost use Rattle.std.specs.Prelude.{ℕ, List};
+    ghost use Rattle.std.specs.List.{flat_map};
+    ghost use Rattle.pilot_codecs.specs.Parts.{IsParted};
+
+    ghost Value = { List ℕ };
+
+    ghost view = { λ p. flat_map (λ g. g) p.groups.items };
+
+    ghost invariant = { λ p. IsParted p.count p.groups.items };
+}
+
+impl Parted {
+    /// The list of these values.
+    pub fn encode(alloc: Global, values: &[u64]) -> Result<Parted, NoMemory>
+        requires { length values.now ≤ 2 ^ 30 }
+        ensures { IfOk result (λ p. p ≡ values.now) }
+    {
+        let mut groups = Vec::new(alloc);
+        let mut rest = values;
+        while !rest.is_empty() {
+            let (group, after) = rest.split_at(rest.len().min(GROUP as usize));
+            groups.push(Compact::encode(alloc, group)?)?;
+            rest = after;
+        }
+        Ok(Parted {
+            count: values.len() as u64,
+            groups,
+        })
+    }
+
+    /// How many values there are.
+    pub fn len(&self) -> u64
+        ensures { result ≡ length self.now }
+    {
+        self.count
+    }
+
+    /// The value with an index.
+    pub fn get(&self, i: u64) -> Option<u64>
+        ensures { result ≡ slice_get self.now i }
+    {
+        if i >= self.count {
+            return None;
+        }
+        let group = &self.groups[(i / GROUP) as usize];
+        group.get(i % GROUP)
+    }
+
+    /// Appends the spelling; on want of memory a part of it.
+    pub fn put(&self, out: &mut Vec<u8>) -> Result<(), NoMemory>
+        ensures ok { OnOk result (out.new.items ≡ out.old.items ++ parted_text self.now) }
+        ensures kept { take (length out.old.items) out.new.items ≡ out.old.items }
+    {
+        put_groups(out, &self.groups)
+    }
+
+    /// The list of a count that bytes begin with, and the bytes after it.
+    pub fn read(
+        alloc: Global,
+        at: u64,
+        count: u64,
+        bytes: &[u8],
+    ) -> Result<(Parted, &[u8]), ReadErr>
+        requires few { count ≤ 2 ^ 30 }
+        requires place { at + length bytes.now ≤ 2 ^ 63 + 2 ^ 49 }
+        ensures { Gives (λ x. (x.0, x.1.now)) result (parted_at at count bytes.now) }
+    {
+        let (groups, rest) = read_groups(alloc, at, count, bytes)?;
+        Ok((Parted { count, groups }, rest))
+    }
+}
