@@ -10,7 +10,7 @@ use std::rt::Clock;
 use std::time::Instant;
 
 // How many questions are asked.
-const QUESTIONS: u32 = 1_000_000;
+pub const QUESTIONS: u32 = 1_000_000;
 
 #[derive(Drop)]
 pub struct Timed {
@@ -18,7 +18,7 @@ pub struct Timed {
     pub checksum: u64,
 }
 
-fn out_of_memory() -> io::Error {
+pub fn out_of_memory() -> io::Error {
     io::Error::from(io::ErrorKind::OutOfMemory)
 }
 
@@ -51,7 +51,7 @@ fn sum_of_values(list: &EliasFano, count: u32) -> u64 {
 }
 
 // A random number below a bound, which is below 2^32.
-fn place_below(numbers: &mut Numbers, bound: u32) -> u64 {
+pub fn place_below(numbers: &mut Numbers, bound: u32) -> u64 {
     ((numbers.next() >> 32).wrapping_mul(u64::from(bound))) >> 32
 }
 
