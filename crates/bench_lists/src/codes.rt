@@ -21,7 +21,10 @@ pub fn time_code(
     if values.len() > 1 << 30 || !are_small(&values) {
         return Err(out_of_memory());
     }
-    let enc = Encoding { front: code, back: None };
+    let enc = Encoding {
+        front: code,
+        back: None,
+    };
     let start = Instant::now(clock)?;
     let list = match Pilots::encode(alloc, &values, enc) {
         Ok(list) => list,
@@ -38,7 +41,10 @@ pub fn time_code(
             if part == "read" {
                 return time_read(alloc, clock, &text, list.len(), enc);
             }
-            Ok(Timed { nanos, checksum: text.len() as u64 })
+            Ok(Timed {
+                nanos,
+                checksum: text.len() as u64,
+            })
         }
     }
 }
@@ -68,7 +74,10 @@ fn time_read(
     let read = Pilots::read(alloc, text, 0, count, enc);
     let nanos = start.elapsed(clock)?.as_nanos();
     match read {
-        Ok((list, _)) => Ok(Timed { nanos, checksum: list.get(count / 2).unwrap_or(0) }),
+        Ok((list, _)) => Ok(Timed {
+            nanos,
+            checksum: list.get(count / 2).unwrap_or(0),
+        }),
         Err(_) => Err(out_of_memory()),
     }
 }

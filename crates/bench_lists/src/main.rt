@@ -28,7 +28,9 @@ fn main(rt: HostRuntime) -> io::Result<()> {
             let Timed { nanos, checksum } = time(rt.alloc(), &rt, part.as_str(), count, code)?;
             println!(rt; "{nanos} {checksum}")
         }
-        _ => println!(rt; "parts: select1, get_dense, get_sparse; encode, read, get; then how many values; then a code"),
+        _ => println!(rt;
+            "parts: select1, get_dense, get_sparse; encode, read, get; then how many values; then a code"
+        ),
     }
 }
 

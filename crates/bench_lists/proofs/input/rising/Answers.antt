@@ -8,7 +8,8 @@ loop-init c = rw c.new-values.ensures.items (rises-none, last_of-none, omega ari
 pub loop-preserved : goal.loop-preserved
 loop-preserved c =
     let kept = c.loop.invariant in
-    rw c.in_ok-push.ensures.items
-      (rises-push 0 c.loop.values.items c.saturating_add-total.result kept.0 (omega (arith, kept.1, kept.2, c.saturating_add-total.ensures)),
-       omega (arith, last_of-push 0 c.loop.values.items c.saturating_add-total.result),
-       omega (arith, c.saturating_add-total.ensures))
+    rw c.in_ok-push.ensures.items (
+      rises-push 0 c.loop.values.items c.saturating_add-total.result kept.0 (omega (arith, kept.1, kept.2, c.saturating_add-total.ensures)),
+      omega (arith, last_of-push 0 c.loop.values.items c.saturating_add-total.result),
+      omega (arith, c.saturating_add-total.ensures),
+    )
