@@ -281,7 +281,7 @@ impl List {
             }),
             "d" => {
                 let mut entries = values.to_vec();
-                entries.sort();
+                entries.sort_unstable();
                 entries.dedup();
                 let places: Vec<u64> = values.iter().map(|v| entries.binary_search(v).unwrap() as u64).collect();
                 List::Dict(Dict { places: Compact::encode(&places), entries })

@@ -4,3 +4,5 @@ pub mod ReadLemmas
 pub mod PackLemmas
 pub mod ViewLemmas
 pub mod SampleLemmas
+pub mod SetLemmas
+pub mod FieldLemmas

@@ -41,7 +41,7 @@ packed_last ws len h count pos =
 pub last_clear : (ws : List ℕ) (len : ℕ) → IsPacked ws len → 0 < len % 64 → get_or ws (len / 64) 0 < 2 ^ (len % 64)
 last_clear ws len p pos = below_from_div (get_or ws (len / 64) 0) (len % 64) (sym (high_part ws len p.fit p.count pos) ∙ div-eq_of_lt p.clear)
 
-joined : (x v s : ℕ) → x < 2 ^ s → s < 64 → bit_or x (v * 2 ^ s % 2 ^ 64) ≡ v % 2 ^ (64 - s) * 2 ^ s + x
+pub joined : (x v s : ℕ) → x < 2 ^ s → s < 64 → bit_or x (v * 2 ^ s % 2 ^ 64) ≡ v % 2 ^ (64 - s) * 2 ^ s + x
 joined x v s clear lt =
     let back : 64 - (64 - s) ≡ s = omega arith in
     let shifted : v * 2 ^ s % 2 ^ 64 ≡ v % 2 ^ (64 - s) * 2 ^ s = subst (λ (j : ℕ). v * 2 ^ j % 2 ^ 64 ≡ v % 2 ^ (64 - s) * 2 ^ j) back (shl_dropped v (64 - s) (omega arith)) in
@@ -100,7 +100,7 @@ join_across ws len v n p pos e =
     let parts = ap (λ (q : ℕ). q * 2 ^ len) (mod-add-div v (2 ^ k)) in
     omega (arith, e, words_number-push ws (v / 2 ^ k), low, high, parts)
 
-AreWords-set : (ws : List ℕ) (i y : ℕ) → AreWords ws → y < 2 ^ 64 → AreWords (set ws i y)
+pub AreWords-set : (ws : List ℕ) (i y : ℕ) → AreWords ws → y < 2 ^ 64 → AreWords (set ws i y)
 AreWords-set [] i y h lt j = h j
 AreWords-set (x ∷ ws) zero y h lt zero = lt
 AreWords-set (x ∷ ws) zero y h lt (suc j) = h (suc j)

@@ -1,10 +1,15 @@
 -- A list of bits as a number, and packed into 64-bit words. The lowest bit and the lowest word come first.
-use Rattle.std.specs.Prelude.{ℕ, zero, suc, ◌≡◌, ◌+◌, ◌*◌, ◌/◌, ◌%◌, ◌^◌, ◌<◌, Bool, List, [], ◌∷◌, length, ◌==◌, if◌then◌else◌, count_by, slice_index}
+use Rattle.std.specs.Prelude.{ℕ, zero, suc, ◌≡◌, ◌+◌, ◌*◌, ◌/◌, ◌%◌, ◌^◌, ◌<◌, Bool, List, [], ◌∷◌, ◌++◌, length, ◌==◌, if◌then◌else◌, count_by, slice_index}
 
 -- the lowest bits of a number, as many as are asked for
 unfoldable pub bits_of : ℕ → ℕ → List Bool
 bits_of zero n = []
 bits_of (suc width) n = (n % 2 == 1) ∷ bits_of width (n / 2)
+
+-- the lowest bits of each number, one number after the other
+unfoldable pub bits_of_each : ℕ → List ℕ → List Bool
+bits_of_each width [] = []
+bits_of_each width (v ∷ vs) = bits_of width v ++ bits_of_each width vs
 
 -- the number whose binary digits the bits are
 unfoldable pub number_of : List Bool → ℕ

@@ -1,7 +1,7 @@
-ghost use Rattle.std.specs.Prelude.{◌≡◌, ℕ, ◌+◌, ◌*◌, ◌-◌, ◌/◌, ◌%◌, ◌^◌, ◌<◌, ◌≤◌, ◌++◌, ◌↔◌, List, [], Bool, false, length, take, drop, slice_index_or, OnOk, OnErr, IfSome, IsSome};
-ghost use Rattle.bit_vector.specs.Bits.{bits_of, number_of, words_number, packed, IsPacked};
+ghost use Rattle.std.specs.Prelude.{◌≡◌, ℕ, ◌+◌, ◌*◌, ◌-◌, ◌/◌, ◌%◌, ◌^◌, ◌<◌, ◌≤◌, ◌++◌, ◌↔◌, List, [], Bool, true, false, length, take, drop, replicate, slice_index_or, slice_set, OnOk, OnErr, IfOk, IfSome, IsSome};
+ghost use Rattle.bit_vector.specs.Bits.{bits_of, bits_of_each, number_of, words_number, packed, IsPacked};
 
-use crate::words::{append, bits_at, is_packed};
+use crate::words::{append, append_fields, bits_at, clear_words, is_packed};
 use std::alloc::{AllocError, AllocFailed, Global};
 use std::marker::Model;
 
@@ -50,6 +50,27 @@ impl BitVec {
         }
     }
 
+    /// Clear bits.
+    pub fn zeros(alloc: Global, len: u64) -> Result<BitVec, NoMemory>
+        requires { len ≤ 2 ^ 42 }
+        ensures { IfOk result (λ b. b ≡ replicate len false) }
+    {
+        let words = clear_words(alloc, len.div_ceil(64) as usize)?;
+        Ok(BitVec { words, len })
+    }
+
+    /// The lowest bits of each value, one value after the other.
+    pub fn from_fields(alloc: Global, values: &[u64], width: u32) -> Result<BitVec, NoMemory>
+        requires wide { width ≤ 64 }
+        requires room { length values.now * width ≤ 2 ^ 42 }
+        ensures { IfOk result (λ b. b ≡ bits_of_each width values.now) }
+    {
+        let len = values.len() as u64 * u64::from(width);
+        let mut words = Vec::with_capacity(alloc, len.div_ceil(64) as usize)?;
+        append_fields(&mut words, values, width)?;
+        Ok(BitVec { words, len })
+    }
+
     /// How many bits there are.
     pub fn len(&self) -> u64
         ensures value { result ≡ length self.now }
@@ -79,6 +100,14 @@ impl BitVec {
         append(&mut self.words, self.len, value, width)?;
         self.len += u64::from(width);
         Ok(())
+    }
+
+    /// Sets the bit at a place.
+    pub fn set(&mut self, at: u64)
+        requires { at < length self.old }
+        ensures { self.new ≡ slice_set self.old at true }
+    {
+        self.words[(at / 64) as usize] |= 1 << (at % 64);
     }
 
     /// The bits from a place on as a number, the lowest first.

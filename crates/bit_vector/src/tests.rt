@@ -29,11 +29,38 @@ fn a_few_bits(rt: HostRuntime) -> Result<(), Fail> {
     assert_eq!(rt; bits.words(), [5, 3].as_slice());
     assert_eq!(rt; bits.get_bits(62, 4), 12);
     assert!(rt; bits.get(64));
+
+    // The same bits, set one by one.
+    let mut set = BitVec::zeros(rt.alloc(), 66)?;
+    for at in [65, 0, 64, 2, 0] {
+        assert!(rt; at < set.len());
+        set.set(at);
+    }
+    assert_eq!(rt; set.words(), bits.words());
+
     let selector = Selector::new(rt.alloc(), bits)?;
     assert_eq!(rt; selector.select1(2), Some(64));
     assert_eq!(rt; selector.select1(4), None);
     assert!(rt; 65 <= selector.bits().len());
     assert_eq!(rt; selector.rank1(65), 3);
+    Ok(())
+}
+
+#[test]
+fn values_of_one_width(rt: HostRuntime) -> Result<(), Fail> {
+    // The width, and the words that the values 5, 0 and 3 take.
+    for (width, words) in [
+        (0, [].as_slice()),
+        (1, [5].as_slice()),
+        (3, [197].as_slice()),
+        (32, [5, 3].as_slice()),
+        (63, [5, 3 << 62, 0].as_slice()),
+        (64, [5, 0, 3].as_slice()),
+    ] {
+        assert!(rt; width <= 64);
+        let bits = BitVec::from_fields(rt.alloc(), &[5, 0, 3], width)?;
+        assert_eq!(rt; bits.words(), words, "{width}");
+    }
     Ok(())
 }
 

@@ -1,7 +1,7 @@
-ghost use Rattle.std.specs.Prelude.{◌≡◌, ℕ, ◌+◌, ◌*◌, ◌-◌, ◌/◌, ◌%◌, ◌^◌, ◌<◌, ◌≤◌, ◌↔◌, length, slice_index, IsTrue, OnOk, OnErr};
-ghost use Rattle.bit_vector.specs.Bits.{words_number, IsPacked};
+ghost use Rattle.std.specs.Prelude.{◌≡◌, ℕ, ◌+◌, ◌*◌, ◌-◌, ◌/◌, ◌%◌, ◌^◌, ◌<◌, ◌≤◌, ◌++◌, ◌↔◌, length, take, replicate, slice_index, IfOk, IsTrue, OnOk, OnErr};
+ghost use Rattle.bit_vector.specs.Bits.{words_number, bits_of_each, packed, IsPacked};
 
-use std::alloc::AllocFailed;
+use std::alloc::{AllocError, AllocFailed, Global};
 
 /// The lowest bits of a word.
 pub fn low_bits(word: u64, width: u32) -> u64
@@ -48,6 +48,13 @@ pub fn is_packed(words: &[u64], len: u64) -> bool
     words[(len / 64) as usize] >> used == 0
 }
 
+/// So many words with no bit set.
+pub fn clear_words(alloc: Global, count: usize) -> Result<Vec<u64>, AllocError>
+    ensures { IfOk result (λ v. v.items ≡ replicate count 0) }
+{
+    vec![in alloc; 0; count]
+}
+
 /// Appends the lowest bits of a value to bits that are packed; on want of memory none.
 pub fn append(
     words: &mut Vec<u64>,
@@ -77,4 +84,51 @@ pub fn append(
     words.push(value >> (64 - shift))?;
     words[last] |= value << shift;
     Ok(())
+}
+
+/// Appends the lowest bits of each value, packed from a new word on; on want of memory a part of them.
+pub fn append_fields(
+    words: &mut Vec<u64>,
+    values: &[u64],
+    width: u32,
+) -> Result<(), AllocFailed<u64>>
+    requires { width ≤ 64 }
+    ensures ok { OnOk result
+        (words.new.items ≡ words.old.items ++ packed (bits_of_each width values.now)) }
+    ensures kept { take (length words.old.items) words.new.items ≡ words.old.items }
+{
+    // The bits that fill no word yet, and how many they are.
+    let mut rest = 0;
+    let mut used = 0;
+    for value in values {
+        let bits = low_bits(*value, width);
+        let word = rest | bits << used;
+        if used + width < 64 {
+            rest = word;
+            used += width;
+        } else {
+            words.push(word)?;
+            used = used + width - 64;
+            rest = top_bits(bits, width, used);
+        }
+    }
+    if used > 0 {
+        words.push(rest)?;
+    }
+    Ok(())
+}
+
+// The highest bits of a number of this width.
+fn top_bits(bits: u64, width: u32, count: u32) -> u64
+    requires wide { width ≤ 64 }
+    requires fits { bits < 2 ^ width }
+    requires within { count ≤ width }
+    requires some_left { count < 64 }
+    ensures { result ≡ bits / 2 ^ (width - count) }
+{
+    if count == 0 {
+        0
+    } else {
+        bits >> (width - count)
+    }
 }

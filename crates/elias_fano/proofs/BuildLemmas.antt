@@ -1,37 +1,55 @@
--- Bits that are made value by value.
-use Rattle.std.proofs.Common.{◌≡◌, ℕ, zero, suc, ◌+◌, ◌*◌, ◌/◌, ◌%◌, ◌^◌, ◌<◌, ◌≤◌, Bool, true, false, List, [], ◌∷◌, ◌++◌, length, get_or, take, Result, Ok, Err, refl, sym, ap, ◌∙◌, append_assoc, inl, inr, arith}
-use Rattle.std.specs.Prelude.{OnOk}
-use Rattle.std.proofs.lemmas.Bool.{cases_lt}
-use Rattle.std.proofs.lemmas.List.{nil_from_length, append-nil, length-append, take_more, length-take-le}
-use Rattle.std.proofs.lemmas.Nat.{shr_split, mod_below, pow_pos}
+-- Bits that are made of a list that rises.
+use Rattle.std.proofs.Common.{◌≡◌, ℕ, zero, suc, ◌+◌, ◌*◌, ◌/◌, ◌^◌, ◌<◌, ◌≤◌, Bool, true, false, eqb, List, [], ◌∷◌, ◌++◌, length, get_or, take, set, replicate, Result, Ok, Err, refl, sym, ap, ◌∙◌, inl, inr, arith}
+use Rattle.std.specs.Prelude.{OnOk, ◌||◌}
+use Rattle.std.proofs.lemmas.Bool.{cases_lt, cases_Bool, eq-eqb, ne_eqb}
+use Rattle.std.proofs.lemmas.List.{nil_from_length, take_more, length-take-le}
 use Rattle.bit_vector.specs.declared.bits.NoMemory.{NoMemory}
-use Rattle.bit_vector.specs.Bits.{bits_of, places_from, places}
-use Rattle.bit_vector.proofs.BitLemmas.{length-bits_of, bits_of-append, length-places_from}
-use Rattle.elias_fano.specs.Spelling.{last_of, rises, low_bits, high_places, high_len}
-use Rattle.elias_fano.specs.Spelling.{low_width}
-use Rattle.elias_fano.specs.Values.{joined, values_of, AreParts, AreValues}
-use Rattle.elias_fano.proofs.ValueLemmas.{rises-parts, last_of-nil}
-use Rattle.elias_fano.proofs.TextLemmas.{bits_of-high, shr-mono, joined-high_places, length-low_bits, length-high_places}
+use Rattle.bit_vector.specs.Bits.{bits_of_each}
+use Rattle.elias_fano.specs.Spelling.{last_of, rises, low_width, high_places, is_among, marks, high_len, high_bits, IsRising}
+use Rattle.elias_fano.specs.Values.{values_of, AreValues}
+use Rattle.elias_fano.proofs.ValueLemmas.{last_of-nil, get_or-le-last}
+use Rattle.elias_fano.proofs.TextLemmas.{shr-mono, list-values}
 
-pub clear-append : (a b c : ℕ) → a + b ≡ c → bits_of a 0 ++ bits_of b 0 ≡ bits_of c 0
-clear-append a b c e = let none : 0 ≡ 0 + 0 * 2 ^ a = omega arith in sym (ap (λ (m : ℕ). bits_of c m) none ∙ bits_of-append a b c 0 0 e (pow_pos a))
+pub is_among-push : (n : ℕ) (ps : List ℕ) (p : ℕ) → is_among n (ps ++ p ∷ []) ≡ (is_among n ps || eqb n p)
+unfolding is_among
+is_among-push n [] p = elim (cases_Bool (eqb n p)) [ inl t ↦ rw t refl | inr f ↦ rw f refl ]
+is_among-push n (q ∷ ps) p = elim (cases_Bool (eqb n q)) [ inl t ↦ rw t refl | inr f ↦ rw f (is_among-push n ps p) ]
 
-no_places : (at g : ℕ) → places_from at (bits_of g 0) ≡ []
-unfolding places_from bits_of
-no_places at zero = refl
-no_places at (suc g) = no_places (at + 1) g
+or_yes : (b : Bool) → (b || true) ≡ true
+or_yes true = refl
+or_yes false = refl
 
-pub places_from-clear : (at g : ℕ) (bs : List Bool) → places_from at (bs ++ bits_of g 0) ≡ places_from at bs
-unfolding places_from
-places_from-clear at g [] = no_places at g
-places_from-clear at g (true ∷ bs) = ap (λ (ps : List ℕ). at ∷ ps) (places_from-clear (at + 1) g bs)
-places_from-clear at g (false ∷ bs) = places_from-clear (at + 1) g bs
+or_no : (b : Bool) → (b || false) ≡ b
+or_no true = refl
+or_no false = refl
 
-pub places_from-one : (at : ℕ) (bs : List Bool) → places_from at (bs ++ bits_of 1 1) ≡ places_from at bs ++ (at + length bs) ∷ []
-unfolding places_from bits_of
-places_from-one at [] = ap (λ (p : ℕ). p ∷ []) (omega arith)
-places_from-one at (true ∷ bs) = ap (λ (ps : List ℕ). at ∷ ps) (places_from-one (at + 1) bs ∙ ap (λ (p : ℕ). places_from (at + 1) bs ++ p ∷ []) (omega arith))
-places_from-one at (false ∷ bs) = places_from-one (at + 1) bs ∙ ap (λ (p : ℕ). places_from (at + 1) bs ++ p ∷ []) (omega arith)
+among_last : (n : ℕ) (ps : List ℕ) → is_among n (ps ++ n ∷ []) ≡ true
+among_last n ps = is_among-push n ps n ∙ ap (λ (b : Bool). is_among n ps || b) (eq-eqb n n refl) ∙ or_yes (is_among n ps)
+
+among_others : (n p : ℕ) (ps : List ℕ) → (n ≡ p → ⊥) → is_among n (ps ++ p ∷ []) ≡ is_among n ps
+among_others n p ps ne = is_among-push n ps p ∙ ap (λ (b : Bool). is_among n ps || b) (ne_eqb n p ne) ∙ or_no (is_among n ps)
+
+-- a place that is passed changes nothing
+marks-past : (at n p : ℕ) (ps : List ℕ) → p < at → marks at n (ps ++ p ∷ []) ≡ marks at n ps
+unfolding marks
+marks-past at zero p ps lt = refl
+marks-past at (suc n) p ps lt = rw (among_others at p ps (λ e. omega (arith, e, lt))) (ap (λ (bs : List Bool). is_among at ps ∷ bs) (marks-past (at + 1) n p ps (omega arith)))
+
+-- one place more
+marks-set : (at n k : ℕ) (ps : List ℕ) → k < n → set (marks at n ps) k true ≡ marks at n (ps ++ (at + k) ∷ [])
+unfolding marks
+marks-set at zero k ps lt = absurd (omega arith)
+marks-set at (suc n) zero ps lt =
+    let here : at + 0 ≡ at = omega arith in
+    rw (here, among_last at ps, marks-past (at + 1) n at ps (omega arith)) refl
+marks-set at (suc n) (suc k) ps lt =
+    let there : at + suc k ≡ at + 1 + k = omega arith in
+    rw (there, among_others at (at + 1 + k) ps (λ e. omega (arith, e))) (ap (λ (bs : List Bool). is_among at ps ∷ bs) (marks-set (at + 1) n k ps (omega arith)))
+
+no_marks : (at n : ℕ) → replicate n false ≡ marks at n []
+unfolding marks is_among
+no_marks at zero = refl
+no_marks at (suc n) = ap (λ (bs : List Bool). false ∷ bs) (no_marks (at + 1) n)
 
 high_places-push : (w k : ℕ) (vs : List ℕ) (v : ℕ) → high_places w k (vs ++ v ∷ []) ≡ high_places w k vs ++ (v / 2 ^ w + (k + length vs)) ∷ []
 unfolding high_places
@@ -39,85 +57,41 @@ high_places-push w k [] v = ap (λ (p : ℕ). p ∷ []) (omega arith)
 high_places-push w k (x ∷ vs) v =
     ap (λ (ps : List ℕ). (x / 2 ^ w + k) ∷ ps) (high_places-push w (k + 1) vs v ∙ ap (λ (p : ℕ). high_places w (k + 1) vs ++ p ∷ []) (omega arith))
 
-low_bits-push : (w : ℕ) (vs : List ℕ) (v : ℕ) → low_bits w (vs ++ v ∷ []) ≡ low_bits w vs ++ bits_of w v
-unfolding low_bits
-low_bits-push w [] v = append-nil (bits_of w v)
-low_bits-push w (x ∷ vs) v = ap (λ (bs : List Bool). bits_of w x ++ bs) (low_bits-push w vs v) ∙ sym (append_assoc (bits_of w x) (low_bits w vs) (bits_of w v))
+-- no value has its one yet
+pub high_first : (w n : ℕ) → replicate n false ≡ marks 0 n (high_places w 0 [])
+unfolding high_places
+high_first w n = no_marks 0 n
 
-last_of-push : (d : ℕ) (vs : List ℕ) (v : ℕ) → last_of d (vs ++ v ∷ []) ≡ v
-unfolding last_of
-last_of-push d [] v = refl
-last_of-push d (x ∷ vs) v = last_of-push x vs v
+-- the place of a value's one is within the high bits
+pub place_within : (w : ℕ) (vs : List ℕ) (i : ℕ) → rises 0 vs ≡ true → i < length vs → get_or vs i 0 / 2 ^ w + i < high_len (length vs) (last_of 0 vs) w
+place_within w vs i h lt = omega (arith, lt, shr-mono (get_or vs i 0) (last_of 0 vs) w (get_or-le-last 0 vs i h lt))
 
-pub last_before : (d : ℕ) (vs : List ℕ) (i : ℕ) → rises d vs ≡ true → i < length vs → last_of d (take i vs) ≤ get_or vs i 0
-unfolding last_of
-last_before d [] i h lt = absurd (omega arith)
-last_before d (v ∷ vs) zero h lt = (rises-parts d v vs h).0
-last_before d (v ∷ vs) (suc i) h lt = last_before v vs i (rises-parts d v vs h).1 (omega arith)
-
-pub last_of-more : (d : ℕ) (vs : List ℕ) (i : ℕ) → i < length vs → last_of d (take (i + 1) vs) ≡ get_or vs i 0
-last_of-more d vs i lt = ap (λ (xs : List ℕ). last_of d xs) (take_more vs i 0 lt) ∙ last_of-push d (take i vs) (get_or vs i 0)
-
-low_of : (w v : ℕ) → bits_of w (v % 2 ^ w) ≡ bits_of w v
-low_of w v = sym (bits_of-high w (v % 2 ^ w) (v / 2 ^ w) (mod_below v (2 ^ w) (pow_pos w))) ∙ ap (λ (m : ℕ). bits_of w m) (shr_split v w)
-
-pub low_step : (w : ℕ) (vs : List ℕ) (i n : ℕ) (low new : List Bool) → i < length vs → n ≡ get_or vs i 0 % 2 ^ w → low ≡ low_bits w (take i vs) → new ≡ low ++ bits_of w n → new ≡ low_bits w (take (i + 1) vs)
-low_step w vs i n low new lt value so_far e =
-    e ∙ ap (λ (bs : List Bool). bs ++ bits_of w n) so_far
-    ∙ ap (λ (bs : List Bool). low_bits w (take i vs) ++ bs) (ap (λ (m : ℕ). bits_of w m) value ∙ low_of w (get_or vs i 0))
-    ∙ sym (low_bits-push w (take i vs) (get_or vs i 0)) ∙ ap (λ (xs : List ℕ). low_bits w xs) (sym (take_more vs i 0 lt))
-
-pub no_low : (w : ℕ) → [] ≡ low_bits w []
-unfolding low_bits
-no_low w = refl
-
-pub no_high : (w : ℕ) → places [] ≡ high_places w 0 []
-unfolding places_from high_places
-no_high w = refl
-
--- one value more: a gap of clear bits, then a one
-pub record IsHigh (w : ℕ) (vs : List ℕ) (i : ℕ) (high : List Bool) : Type 0 where
-  pub ones_at : places high ≡ high_places w 0 (take i vs)
-  pub len : length high ≡ last_of 0 (take i vs) / 2 ^ w + i
-
-pub high_first : (w : ℕ) (vs : List ℕ) → IsHigh w vs 0 []
-unfolding last_of
-high_first w vs = record { ones_at = no_high w; len = omega (arith, Rattle.std.proofs.Math.Nat.zero-div (2 ^ w)) }
-
-pub gap_fits : (w : ℕ) (vs : List ℕ) (i : ℕ) (high : List Bool) → rises 0 vs ≡ true → i < length vs → IsHigh w vs i high → length high ≤ get_or vs i 0 / 2 ^ w + i
-gap_fits w vs i high h lt p = omega (arith, p.len, shr-mono (last_of 0 (take i vs)) (get_or vs i 0) w (last_before 0 vs i h lt))
-
-pub high_step : (w : ℕ) (vs : List ℕ) (i gap : ℕ) (high mid new : List Bool) → i < length vs → IsHigh w vs i high → length high + gap ≡ get_or vs i 0 / 2 ^ w + i → mid ≡ high ++ bits_of gap 0 → new ≡ mid ++ bits_of 1 1 → IsHigh w vs (i + 1) new
-high_step w vs i gap high mid new lt p place m e =
+-- one value more
+pub high_step : (w n : ℕ) (vs : List ℕ) (i : ℕ) (high : List Bool) → i < length vs → get_or vs i 0 / 2 ^ w + i < n → high ≡ marks 0 n (high_places w 0 (take i vs))
+    → set high (get_or vs i 0 / 2 ^ w + i) true ≡ marks 0 n (high_places w 0 (take (i + 1) vs))
+high_step w n vs i high lt within e =
     let v = get_or vs i 0 in
-    let size : length (high ++ bits_of gap 0) ≡ v / 2 ^ w + i = omega (arith, length-append high (bits_of gap 0), length-bits_of gap 0, place) in
-    let whole : new ≡ (high ++ bits_of gap 0) ++ bits_of 1 1 = e ∙ ap (λ (bs : List Bool). bs ++ bits_of 1 1) m in
-    let last : last_of 0 (take (i + 1) vs) ≡ v = last_of-more 0 vs i lt in
+    let p = v / 2 ^ w + i in
     let few : length (take i vs) ≡ i = length-take-le i vs (omega arith) in
-    let there : 0 + length (high ++ bits_of gap 0) ≡ v / 2 ^ w + (0 + length (take i vs)) = omega (arith, size, few) in
-    record {
-      ones_at = ap places whole ∙ places_from-one 0 (high ++ bits_of gap 0) ∙ ap (λ (ps : List ℕ). ps ++ (0 + length (high ++ bits_of gap 0)) ∷ []) (places_from-clear 0 gap high ∙ p.ones_at)
-          ∙ ap (λ (x : ℕ). high_places w 0 (take i vs) ++ x ∷ []) there ∙ sym (high_places-push w 0 (take i vs) v) ∙ ap (λ (xs : List ℕ). high_places w 0 xs) (sym (take_more vs i 0 lt));
-      len = ap length whole ∙ omega (arith, length-append (high ++ bits_of gap 0) (bits_of 1 1), length-bits_of 1 1, size, ap (λ (x : ℕ). x / 2 ^ w) last);
-    }
+    let there : 0 + p ≡ v / 2 ^ w + (0 + length (take i vs)) = omega (arith, few) in
+    ap (λ (bs : List Bool). set bs p true) e ∙ marks-set 0 n p (high_places w 0 (take i vs)) within
+    ∙ ap (λ (x : ℕ). marks 0 n (high_places w 0 (take i vs) ++ x ∷ [])) there
+    ∙ ap (λ (ps : List ℕ). marks 0 n ps) (sym (high_places-push w 0 (take i vs) v))
+    ∙ ap (λ (xs : List ℕ). marks 0 n (high_places w 0 xs)) (sym (take_more vs i 0 lt))
 
 pub on_ok-map : (r : Result (Unit {0}) NoMemory) (A B : Type 0) → (A → B) → OnOk r A → OnOk r B
 on_ok-map (Ok x) A B f a = f a
 on_ok-map (Err e) A B f a = tt
 
 -- the bits that were made are those of the list
-pub built : (vs : List ℕ) (last w : ℕ) (low high : List Bool) → rises 0 vs ≡ true → length vs ≤ 2 ^ 36 → last ≡ last_of 0 vs → last < 2 ^ 64 → w ≡ low_width (length vs) last → low ≡ low_bits w vs
-    → length high ≡ high_len (length vs) (last_of 0 vs) w → places high ≡ high_places w 0 vs → AreValues (length vs) last w low high × (values_of w low high ≡ vs)
-built vs last w low high r few l small wide lows size at =
-    let same : values_of w low high ≡ vs = ap (λ (ps : List ℕ). joined w 0 ps low) at ∙ ap (λ (bs : List Bool). joined w 0 (high_places w 0 vs) bs) lows ∙ joined-high_places w 0 vs in
-    let shape : AreParts (length vs) last w low high = record {
-      few = few;
-      wide = wide;
-      low_len = ap length lows ∙ length-low_bits w vs;
-      high_len_is = size ∙ ap (λ (u : ℕ). high_len (length vs) u w) (sym l);
-      ones_are = sym (length-places_from 0 high) ∙ ap length at ∙ length-high_places w 0 vs;
-    } in
-    (record { parts = shape; fits = small; rising = ap (λ (xs : List ℕ). rises 0 xs) same ∙ r; last_is = ap (λ (xs : List ℕ). last_of 0 xs) same ∙ sym l }, same)
+pub built : (vs : List ℕ) (last w : ℕ) (low high : List Bool) → rises 0 vs ≡ true → length vs ≤ 2 ^ 36 → last ≡ last_of 0 vs → last < 2 ^ 64 → w ≡ low_width (length vs) last → low ≡ bits_of_each w vs
+    → high ≡ high_bits w vs → AreValues (length vs) last w low high × (values_of w low high ≡ vs)
+built vs last w low high r few l small wide lows highs =
+    let rising : IsRising vs = record { rising = r; fits = omega (arith, l, small); few = few } in
+    let w-is : w ≡ low_width (length vs) (last_of 0 vs) = wide ∙ ap (λ (u : ℕ). low_width (length vs) u) l in
+    let p = list-values vs rising in
+    rw (lows, highs, l, w-is)
+    (record { parts = p.0; fits = rising.fits; rising = ap (λ (xs : List ℕ). rises 0 xs) p.1 ∙ r; last_is = ap (λ (xs : List ℕ). last_of 0 xs) p.1 }, p.1)
 
 pub last_high : (count last w : ℕ) → (0 < count → last / 2 ^ w ≤ 2 * count) → (count ≡ 0 → last ≡ 0) → count ≤ 2 ^ 36 → last / 2 ^ w ≤ 2 ^ 37
 last_high count last w some none few =

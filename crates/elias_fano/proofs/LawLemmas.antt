@@ -6,14 +6,14 @@ use Rattle.std.specs.Int.{w64, from_le_bytes}
 use Rattle.std.proofs.lemmas.Bool.{cases_lt, cases_eq, eqb-true, ltb-false, ltb-true, lt-ltb, le-ltb}
 use Rattle.std.proofs.lemmas.Nat.{le_bytes_8, from_le_bytes-to_le_bytes_8}
 use Rattle.std.proofs.lemmas.List.{drop-drop, take_rest, take-append-drop, drop_at, length-append, length-take, nil_from_length}
-use Rattle.bit_vector.specs.Bits.{bits_of, words_number, words_for, packed, ones, IsPacked}
+use Rattle.bit_vector.specs.Bits.{bits_of, bits_of_each, words_number, words_for, packed, ones, IsPacked}
 use Rattle.bit_vector.proofs.BitLemmas.{length-bits_of, bits_of-number_of, number_of-lt}
 use Rattle.bit_vector.proofs.ViewLemmas.{packed-bits_of}
 use Rattle.bit_vector.proofs.SampleLemmas.{length-packed, AreWords-packed, words_number-packed}
 use Rattle.elias_fano.specs.declared.fault.FormFault.{FormFault}
 use Rattle.elias_fano.specs.declared.fault.ReadErr.{ReadErr}
 use Rattle.elias_fano.specs.declared.fault.ReadErr.TheVariants as errors
-use Rattle.elias_fano.specs.Spelling.{number, run, low_width, last_of, rises, low_bits, high_places, marks, high_len, ef_text, IsRising}
+use Rattle.elias_fano.specs.Spelling.{number, run, low_width, last_of, rises, high_places, marks, high_len, ef_text, IsRising}
 use Rattle.elias_fano.specs.Values.{values_of, AreParts, AreValues}
 use Rattle.elias_fano.specs.Reading.{◌>>=◌, Fails, fault, number_at, words_in, run_at, checked, parts_at, list_at, IsSpelled}
 use Rattle.elias_fano.proofs.ValueLemmas.{last_of-nil}
@@ -169,7 +169,7 @@ list_again at vs rest r =
     let count = length vs in
     let last = last_of 0 vs in
     let w = low_width count last in
-    let low = low_bits w vs in
+    let low = bits_of_each w vs in
     let high = marks 0 (high_len count last w) (high_places w 0 vs) in
     let v = list-values vs r in
     let after : List ℕ = run low ++ (run high ++ rest) in

@@ -3,27 +3,22 @@ use Rattle.std.proofs.Common.{◌≡◌, ℕ, zero, suc, ◌+◌, ◌*◌, ◌-�
 use Rattle.std.proofs.lemmas.Bool.{cases_lt, eq-eqb, ne_eqb}
 use Rattle.std.proofs.lemmas.Nat.{shr_split, shr_high}
 use Rattle.std.proofs.lemmas.List.{append-nil, take-append-drop, take_at, drop_at, length-take, length-drop, length-append}
-use Rattle.bit_vector.specs.Bits.{bits_of, number_of, places_from, places}
+use Rattle.bit_vector.specs.Bits.{bits_of, bits_of_each, number_of, places_from, places}
+use Rattle.bit_vector.proofs.FieldLemmas.{bits_of-high, length-bits_of_each}
 use Rattle.bit_vector.proofs.BitLemmas.{length-bits_of, bits_of-append, bits_of-number_of, number_of-bits_of, length-places_from}
-use Rattle.elias_fano.specs.Spelling.{last_of, rises, low_bits, high_places, is_among, marks, high_len, low_width, ef_text, text_at, number, run, IsRising}
+use Rattle.elias_fano.specs.Spelling.{last_of, rises, high_places, is_among, marks, high_len, low_width, ef_text, text_at, number, run, IsRising}
 use Rattle.elias_fano.specs.Values.{joined, values_of, AreParts, AreValues}
 use Rattle.elias_fano.proofs.ValueLemmas.{low-lt, length-joined, rises-parts, rises-yes, bound-le-last}
 
-pub bits_of-high : (w n v : ℕ) → n < 2 ^ w → bits_of w (v * 2 ^ w + n) ≡ bits_of w n
-unfolding bits_of
-bits_of-high w n v lt =
-    let turned : v * 2 ^ w + n ≡ n + v * 2 ^ w = omega arith in
-    ap (λ (m : ℕ). bits_of w m) turned ∙ bits_of-append w 0 w n v (omega arith) lt ∙ append-nil (bits_of w n)
-
-pub low_bits-joined : (w k : ℕ) (ps : List ℕ) (low : List Bool) → length low ≡ length ps * w → low_bits w (joined w k ps low) ≡ low
-unfolding low_bits joined
-low_bits-joined w k [] low e = sym (Rattle.std.proofs.lemmas.List.nil_from_length low (omega (arith, e)))
-low_bits-joined w k (p ∷ ps) low e =
+pub bits_of_each-joined : (w k : ℕ) (ps : List ℕ) (low : List Bool) → length low ≡ length ps * w → bits_of_each w (joined w k ps low) ≡ low
+unfolding bits_of_each joined
+bits_of_each-joined w k [] low e = sym (Rattle.std.proofs.lemmas.List.nil_from_length low (omega (arith, e)))
+bits_of_each-joined w k (p ∷ ps) low e =
     let size : length (take w low) ≡ w = omega (arith, length-take w low, e) in
     let first : bits_of w ((p - k) * 2 ^ w + number_of (take w low)) ≡ take w low =
     bits_of-high w (number_of (take w low)) (p - k) (low-lt w low) ∙ ap (λ (j : ℕ). bits_of j (number_of (take w low))) (sym size) ∙ bits_of-number_of (take w low) in
-    let others = low_bits-joined w (k + 1) ps (drop w low) (omega (arith, length-drop w low, e)) in
-    ap (λ (bs : List Bool). bs ++ low_bits w (joined w (k + 1) ps (drop w low))) first ∙ ap (λ (bs : List Bool). take w low ++ bs) others ∙ take-append-drop w low
+    let others = bits_of_each-joined w (k + 1) ps (drop w low) (omega (arith, length-drop w low, e)) in
+    ap (λ (bs : List Bool). bs ++ bits_of_each w (joined w (k + 1) ps (drop w low))) first ∙ ap (λ (bs : List Bool). take w low ++ bs) others ∙ take-append-drop w low
 
 pub high_places-joined : (w k at : ℕ) (bs low : List Bool) → k ≤ at → high_places w k (joined w k (places_from at bs) low) ≡ places_from at bs
 unfolding high_places joined places_from
@@ -55,16 +50,16 @@ marks-places_from at (true ∷ bs) =
 marks-places_from at (false ∷ bs) =
     rw (is_among-before at (at + 1) bs (omega arith)) (ap (λ (cs : List Bool). false ∷ cs) (marks-places_from (at + 1) bs))
 
-pub joined-high_places : (w k : ℕ) (vs : List ℕ) → joined w k (high_places w k vs) (low_bits w vs) ≡ vs
-unfolding joined high_places low_bits
+pub joined-high_places : (w k : ℕ) (vs : List ℕ) → joined w k (high_places w k vs) (bits_of_each w vs) ≡ vs
+unfolding joined high_places bits_of_each
 joined-high_places w k [] = refl
 joined-high_places w k (v ∷ vs) =
     let high : v / 2 ^ w + k - k ≡ v / 2 ^ w = omega arith in
     let size = length-bits_of w v in
-    let low : number_of (take w (bits_of w v ++ low_bits w vs)) ≡ v % 2 ^ w = ap number_of (take_at (bits_of w v) (low_bits w vs) w size) ∙ number_of-bits_of w v in
-    let rest : drop w (bits_of w v ++ low_bits w vs) ≡ low_bits w vs = drop_at (bits_of w v) (low_bits w vs) w size in
-    let first : (v / 2 ^ w + k - k) * 2 ^ w + number_of (take w (bits_of w v ++ low_bits w vs)) ≡ v = ap (λ (x : ℕ). x * 2 ^ w + number_of (take w (bits_of w v ++ low_bits w vs))) high ∙ ap (λ (x : ℕ). v / 2 ^ w * 2 ^ w + x) low ∙ shr_split v w in
-    ap (λ (x : ℕ). x ∷ joined w (k + 1) (high_places w (k + 1) vs) (drop w (bits_of w v ++ low_bits w vs))) first
+    let low : number_of (take w (bits_of w v ++ bits_of_each w vs)) ≡ v % 2 ^ w = ap number_of (take_at (bits_of w v) (bits_of_each w vs) w size) ∙ number_of-bits_of w v in
+    let rest : drop w (bits_of w v ++ bits_of_each w vs) ≡ bits_of_each w vs = drop_at (bits_of w v) (bits_of_each w vs) w size in
+    let first : (v / 2 ^ w + k - k) * 2 ^ w + number_of (take w (bits_of w v ++ bits_of_each w vs)) ≡ v = ap (λ (x : ℕ). x * 2 ^ w + number_of (take w (bits_of w v ++ bits_of_each w vs))) high ∙ ap (λ (x : ℕ). v / 2 ^ w * 2 ^ w + x) low ∙ shr_split v w in
+    ap (λ (x : ℕ). x ∷ joined w (k + 1) (high_places w (k + 1) vs) (drop w (bits_of w v ++ bits_of_each w vs))) first
     ∙ ap (λ (bs : List Bool). v ∷ joined w (k + 1) (high_places w (k + 1) vs) bs) rest
     ∙ ap (λ (xs : List ℕ). v ∷ xs) (joined-high_places w (k + 1) vs)
 
@@ -72,11 +67,6 @@ pub length-high_places : (w k : ℕ) (vs : List ℕ) → length (high_places w k
 unfolding high_places
 length-high_places w k [] = refl
 length-high_places w k (v ∷ vs) = ap suc (length-high_places w (k + 1) vs)
-
-pub length-low_bits : (w : ℕ) (vs : List ℕ) → length (low_bits w vs) ≡ length vs * w
-unfolding low_bits
-length-low_bits w [] = omega arith
-length-low_bits w (v ∷ vs) = omega (arith, length-append (bits_of w v) (low_bits w vs), length-bits_of w v, length-low_bits w vs)
 
 pub length-marks : (at n : ℕ) (ps : List ℕ) → length (marks at n ps) ≡ n
 unfolding marks
@@ -137,7 +127,7 @@ ef_text-values count last w low high v =
     let n = values-length count last w low high v.parts in
     let wide : low_width (length vs) (last_of 0 vs) ≡ w = ap (λ (k : ℕ). low_width k (last_of 0 vs)) n ∙ ap (λ (u : ℕ). low_width count u) v.last_is ∙ sym v.parts.wide in
     let size : length low ≡ length (places high) * w = v.parts.low_len ∙ ap (λ (k : ℕ). k * w) (sym v.parts.ones_are ∙ sym (length-places_from 0 high)) in
-    let lows : low_bits w vs ≡ low = low_bits-joined w 0 (places high) low size in
+    let lows : bits_of_each w vs ≡ low = bits_of_each-joined w 0 (places high) low size in
     let tall : high_len (length vs) last w ≡ length high = ap (λ (k : ℕ). high_len k last w) n ∙ sym v.parts.high_len_is in
     let highs : marks 0 (high_len (length vs) last w) (high_places w 0 vs) ≡ high =
     ap (λ (ps : List ℕ). marks 0 (high_len (length vs) last w) ps) (high_places-joined w 0 0 high low (omega arith)) ∙ ap (λ (k : ℕ). marks 0 k (places high)) tall ∙ marks-places_from 0 high in
@@ -147,7 +137,7 @@ ef_text-values count last w low high v =
     ∙ ap (λ (bs : List Bool). number last ++ run low ++ run bs) highs
 
 -- the bits of a list that rises are those of its values
-pub list-values : (vs : List ℕ) → IsRising vs → let last = last_of 0 vs in let w = low_width (length vs) last in let high = marks 0 (high_len (length vs) last w) (high_places w 0 vs) in AreParts (length vs) last w (low_bits w vs) high × (values_of w (low_bits w vs) high ≡ vs)
+pub list-values : (vs : List ℕ) → IsRising vs → let last = last_of 0 vs in let w = low_width (length vs) last in let high = marks 0 (high_len (length vs) last w) (high_places w 0 vs) in AreParts (length vs) last w (bits_of_each w vs) high × (values_of w (bits_of_each w vs) high ≡ vs)
 list-values vs r =
     let last = last_of 0 vs in
     let w = low_width (length vs) last in
@@ -156,11 +146,11 @@ list-values vs r =
       record {
         few = r.few;
         wide = refl;
-        low_len = length-low_bits w vs;
+        low_len = length-bits_of_each w vs;
         high_len_is = length-marks 0 n (high_places w 0 vs);
         ones_are = sym (length-places_from 0 (marks 0 n (high_places w 0 vs))) ∙ ap length found ∙ length-high_places w 0 vs;
       },
-      ap (λ (ps : List ℕ). joined w 0 ps (low_bits w vs)) found ∙ joined-high_places w 0 vs,
+      ap (λ (ps : List ℕ). joined w 0 ps (bits_of_each w vs)) found ∙ joined-high_places w 0 vs,
     )
 
 pub values-rising : (count last w : ℕ) (low high : List Bool) → AreValues count last w low high → IsRising (values_of w low high)

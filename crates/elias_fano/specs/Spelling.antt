@@ -2,7 +2,7 @@
 use Rattle.std.specs.Prelude.{ℕ, zero, suc, ◌≡◌, ◌+◌, ◌/◌, ◌^◌, ◌<◌, ◌≤◌, max, Bool, true, false, ◌&&◌, ◌||◌, List, [], ◌∷◌, ◌++◌, length, ◌==◌, nat_lt, nat_le, if◌then◌else◌}
 use Rattle.std.specs.List.{flat_map}
 use Rattle.std.specs.Int.{w64, to_le_bytes}
-use Rattle.bit_vector.specs.Bits.{bits_of, packed}
+use Rattle.bit_vector.specs.Bits.{bits_of_each, packed}
 
 -- a number is 8 bytes, the lowest first
 abbrev pub number : ℕ → List ℕ
@@ -31,11 +31,6 @@ unfoldable pub rises : ℕ → List ℕ → Bool
 rises least [] = true
 rises least (v ∷ vs) = nat_le least v && rises v vs
 
--- the lowest bits of each value
-unfoldable pub low_bits : ℕ → List ℕ → List Bool
-low_bits width [] = []
-low_bits width (v ∷ vs) = bits_of width v ++ low_bits width vs
-
 -- the place of each value's one: what is above its low bits, and its index
 unfoldable pub high_places : ℕ → ℕ → List ℕ → List ℕ
 high_places width i [] = []
@@ -55,9 +50,13 @@ marks at (suc count) ps = is_among at ps ∷ marks (at + 1) count ps
 abbrev pub high_len : ℕ → ℕ → ℕ → ℕ
 high_len count last width = count + last / 2 ^ width + 1
 
+-- the high bits of a list at a width
+abbrev pub high_bits : ℕ → List ℕ → List Bool
+high_bits width vs = marks 0 (high_len (length vs) (last_of 0 vs) width) (high_places width 0 vs)
+
 -- the spelling at a width and a last value
 abbrev pub text_at : ℕ → ℕ → List ℕ → List ℕ
-text_at last width vs = number last ++ run (low_bits width vs) ++ run (marks 0 (high_len (length vs) last width) (high_places width 0 vs))
+text_at last width vs = number last ++ run (bits_of_each width vs) ++ run (marks 0 (high_len (length vs) last width) (high_places width 0 vs))
 
 -- the spelling: the last value, the low bits, the high bits
 unfoldable pub ef_text : List ℕ → List ℕ

@@ -4,7 +4,7 @@ ghost use Rattle.elias_fano.specs.Spelling.{rises, ef_text, IsRising};
 ghost use Rattle.elias_fano.specs.Values.{values_of, AreValues};
 ghost use Rattle.elias_fano.specs.Reading.{Gives, list_at, IsSpelled};
 
-use crate::build::{high_part, last_value, low_part};
+use crate::build::{high_part, last_value};
 use crate::fault::ReadErr;
 use crate::parts::{part_at, width_of};
 use crate::reading::read_list;
@@ -64,7 +64,7 @@ impl EliasFano {
         let count = values.len() as u64;
         let last = last_value(values);
         let width = width_of(count, last);
-        let low = low_part(alloc, values, width)?;
+        let low = BitVec::from_fields(alloc, values, width)?;
         let high = Selector::new(alloc, high_part(alloc, values, width)?)?;
         Ok(EliasFano::from_parts(count, last, width, low, high))
     }

@@ -6,19 +6,19 @@ use Rattle.std.proofs.Math.Nat.{pow-le-pow_right}
 use Rattle.std.proofs.lemmas.Bool.{eqb-true, ltb-true, ltb-false, not-false, or_parts}
 use Rattle.std.proofs.lemmas.Nat.{pow_pos}
 use Rattle.std.proofs.lemmas.List.{take_rest, drop_at, length-append}
-use Rattle.bit_vector.specs.Bits.{bits_of, number_of, words_number, words_for, packed, IsPacked}
+use Rattle.bit_vector.specs.Bits.{bits_of, number_of, words_number, words_for, packed, IsPacked, bits_of_each}
 use Rattle.bit_vector.proofs.BitLemmas.{length-bits_of, bits_of-number_of, number_of-lt}
 use Rattle.bit_vector.proofs.ViewLemmas.{packed-bits_of}
 use Rattle.bit_vector.proofs.SampleLemmas.{length-packed, AreWords-packed, words_number-packed}
-use Rattle.elias_fano.specs.Spelling.{number, run, low_bits}
+use Rattle.elias_fano.specs.Spelling.{number, run}
 use Rattle.elias_fano.specs.Reading.{fault, number_at, words_in}
-use Rattle.elias_fano.proofs.TextLemmas.{length-low_bits}
+use Rattle.bit_vector.proofs.FieldLemmas.{length-bits_of_each}
 use Rattle.elias_fano.proofs.ValueLemmas.{low-lt}
 use Rattle.elias_fano.proofs.FormLemmas.{IsBytes, IsBytes-drop, packed_if_clear}
 use Rattle.elias_fano.proofs.LawLemmas.{bind_ok, guard_ok, guard_last, Takes, number_takes, number_again, words_written, words_again, length-numbers}
 use Rattle.pilot_codecs.specs.Spelling.{digits_of, greatest, compact_text}
 use Rattle.pilot_codecs.specs.Reading.{fields, packed_at, compact_at}
-use Rattle.pilot_codecs.proofs.FieldLemmas.{lt-digits_of, digits_of-le, digits_of-pos, length-fields, fields-low_bits, low_bits-fields}
+use Rattle.pilot_codecs.proofs.FieldLemmas.{lt-digits_of, digits_of-le, digits_of-pos, length-fields, fields-bits_of_each, bits_of_each-fields}
 use Rattle.pilot_codecs.proofs.CompactLemmas.{packed_at-ok, compact_at-packed}
 
 pub greatest-fields : (n w : ℕ) (bits : List Bool) → greatest (fields n w bits) < 2 ^ w
@@ -49,12 +49,12 @@ packed_takes at count w bytes vs rest fits narrow e =
     let k = guard_last (ltb n (2 ^ len)) (fault (at + 8 + 8 * size - 8) 3) (got, drop (8 * size) bytes) (vs, rest) h.1 in
     let packing = packed_if_clear len bytes fits (ltb-true _ _ k.0) in
     let written : flat_map number (packed bits) ++ drop (8 * size) bytes ≡ bytes = ap (λ (xs : List ℕ). flat_map number xs ++ drop (8 * size) bytes) (packed-bits_of ws len packing) ∙ words_written size bytes fits long in
-    let text : number (digits_of (greatest got)) ++ flat_map number (packed (low_bits (digits_of (greatest got)) got)) ≡ number w ++ flat_map number (packed bits) =
-    ap (λ (j : ℕ). number j ++ flat_map number (packed (low_bits j got))) width ∙ ap (λ (bs : List Bool). number w ++ flat_map number (packed bs)) (low_bits-fields count w bits (length-bits_of len n)) in
-    let whole : number w ++ bytes ≡ (number (digits_of (greatest got)) ++ flat_map number (packed (low_bits (digits_of (greatest got)) got))) ++ drop (8 * size) bytes =
+    let text : number (digits_of (greatest got)) ++ flat_map number (packed (bits_of_each (digits_of (greatest got)) got)) ≡ number w ++ flat_map number (packed bits) =
+    ap (λ (j : ℕ). number j ++ flat_map number (packed (bits_of_each j got))) width ∙ ap (λ (bs : List Bool). number w ++ flat_map number (packed bs)) (bits_of_each-fields count w bits (length-bits_of len n)) in
+    let whole : number w ++ bytes ≡ (number (digits_of (greatest got)) ++ flat_map number (packed (bits_of_each (digits_of (greatest got)) got))) ++ drop (8 * size) bytes =
     sym (ap (λ (t : List ℕ). t ++ drop (8 * size) bytes) text ∙ append_assoc (number w) (flat_map number (packed bits)) (drop (8 * size) bytes) ∙ ap (λ (t : List ℕ). number w ++ t) written) in
     let more : 2 ^ w ≤ 2 ^ 64 = pow-le-pow_right (omega arith) narrow in
-    subst (λ (p : List ℕ × List ℕ). (number w ++ bytes ≡ (number (digits_of (greatest p.0)) ++ flat_map number (packed (low_bits (digits_of (greatest p.0)) p.0))) ++ p.1) × IsBytes p.1 × (length p.0 ≡ count) × (greatest p.0 < 2 ^ 64)) k.1
+    subst (λ (p : List ℕ × List ℕ). (number w ++ bytes ≡ (number (digits_of (greatest p.0)) ++ flat_map number (packed (bits_of_each (digits_of (greatest p.0)) p.0))) ++ p.1) × IsBytes p.1 × (length p.0 ≡ count) × (greatest p.0 < 2 ^ 64)) k.1
     (whole, IsBytes-drop (8 * size) bytes fits, length-fields count w bits, omega (arith, greatest-fields count w bits, more))
 
 pub compact_takes : (at count : ℕ) (bytes vs rest : List ℕ) → IsBytes bytes → compact_at at count bytes ≡ Ok (vs, rest) → IsCompactText bytes count vs rest
@@ -72,8 +72,8 @@ unfolding compact_text run
 compact_again at vs rest small =
     let count = length vs in
     let w = digits_of (greatest vs) in
-    let bits = low_bits w vs in
-    let len : length bits ≡ count * w = length-low_bits w vs in
+    let bits = bits_of_each w vs in
+    let len : length bits ≡ count * w = length-bits_of_each w vs in
     let ws = packed bits in
     let after = flat_map number ws ++ rest in
     let n : words_number ws ≡ number_of bits = words_number-packed bits in
@@ -81,7 +81,7 @@ compact_again at vs rest small =
     let room : 8 * length ws ≤ length after = omega (arith, length-numbers ws, length-append (flat_map number ws) rest) in
     let packing : IsPacked ws (count * w) = record { count = size; fit = AreWords-packed bits; clear = subst (λ (k : ℕ). words_number ws < 2 ^ k) len (subst (λ (m : ℕ). m < 2 ^ length bits) (sym n) (number_of-lt bits)) } in
     let value : bits ≡ bits_of (count * w) (words_number ws) = sym (ap (λ (k : ℕ). bits_of (count * w) k) n ∙ ap (λ (k : ℕ). bits_of k (number_of bits)) (sym len) ∙ bits_of-number_of bits) in
-    let same : fields count w bits ≡ vs = fields-low_bits w vs (lt-digits_of (greatest vs) small) in
+    let same : fields count w bits ≡ vs = fields-bits_of_each w vs (lt-digits_of (greatest vs) small) in
     let width : digits_of (greatest (fields count w (bits_of (count * w) (words_number ws)))) ≡ w = ap (λ (bs : List Bool). digits_of (greatest (fields count w bs))) (sym value) ∙ ap (λ (xs : List ℕ). digits_of (greatest xs)) same in
     let read = packed_at-ok at count w (length ws) after ws bits size room (sym (words_again ws rest (AreWords-packed bits))) width packing value in
     let behind : take (length after - 8 * length ws) (drop (8 * length ws) after) ≡ rest = take_rest after (8 * length ws) ∙ drop_at (flat_map number ws) rest (8 * length ws) (length-numbers ws) in

@@ -4,6 +4,7 @@ use Rattle.std.specs.Prelude.{◌||◌}
 use Rattle.std.proofs.lemmas.Bool.{cases_lt, cases_eq, cases_Bool, and_parts, and_from, ltb-true, lt-ltb, le-ltb, eq-eqb, ne_eqb}
 use Rattle.std.proofs.lemmas.List.{drop_more, take_more, get_or-set_same, get_or-set_other}
 use Rattle.elias_fano.specs.Spelling.{is_among}
+use Rattle.elias_fano.proofs.BuildLemmas.{is_among-push}
 use Rattle.pilot_codecs.specs.Reading.{rise_from, rise_len, are_below, are_used}
 
 pub same_bool : (b c : Bool) → (b ≡ true → c ≡ true) → (c ≡ true → b ≡ true) → b ≡ c
@@ -82,11 +83,6 @@ pub are_used-from : (n : ℕ) (ps : List ℕ) → ((d : ℕ) → d < n → is_am
 unfolding are_used
 are_used-from zero ps h = refl
 are_used-from (suc n) ps h = and_from (is_among n ps) (are_used n ps) (h n (omega arith)) (are_used-from n ps (λ d lt. h d (omega arith)))
-
-pub is_among-push : (n : ℕ) (ps : List ℕ) (p : ℕ) → is_among n (ps ++ p ∷ []) ≡ (is_among n ps || eqb n p)
-unfolding is_among
-is_among-push n [] p = elim (cases_Bool (eqb n p)) [ inl t ↦ rw t refl | inr f ↦ rw f refl ]
-is_among-push n (q ∷ ps) p = elim (cases_Bool (eqb n q)) [ inl t ↦ rw t refl | inr f ↦ rw f (is_among-push n ps p) ]
 
 pub is_among-nil : (n : ℕ) → is_among n [] ≡ false
 unfolding is_among

@@ -4,9 +4,9 @@ use Rattle.std.proofs.Math.Nat.{mod-eq_of_lt}
 use Rattle.std.proofs.lemmas.Bool.{cases_lt, lt-ltb, le-ltb}
 use Rattle.std.proofs.Math.Nat.{pow-suc}
 use Rattle.std.proofs.lemmas.List.{drop-drop, take_at, drop_at, take-append-drop, length-take, length-drop, nil_from_length}
-use Rattle.bit_vector.specs.Bits.{bits_of, number_of}
+use Rattle.bit_vector.specs.Bits.{bits_of, number_of, bits_of_each}
 use Rattle.bit_vector.proofs.BitLemmas.{length-bits_of, bits_of-number_of, number_of-bits_of}
-use Rattle.elias_fano.specs.Spelling.{log2_within, low_bits}
+use Rattle.elias_fano.specs.Spelling.{log2_within}
 use Rattle.elias_fano.proofs.WidthLemmas.{log2_is, log2-le}
 use Rattle.pilot_codecs.specs.Spelling.{digits_of, greatest}
 use Rattle.pilot_codecs.specs.Reading.{fields}
@@ -81,23 +81,23 @@ get_or-fields (suc n) w bits (suc i) lt =
     let place : w + i * w ≡ suc i * w = omega arith in
     get_or-fields n w (drop w bits) i (omega arith) ∙ ap (λ (bs : List Bool). number_of (take w bs)) (drop-drop (i * w) w bits ∙ ap (λ (j : ℕ). drop j bits) place)
 
-pub low_bits-fields : (n w : ℕ) (bits : List Bool) → length bits ≡ n * w → low_bits w (fields n w bits) ≡ bits
-unfolding fields low_bits
-low_bits-fields zero w bits e = sym (nil_from_length bits (omega (arith, e)))
-low_bits-fields (suc n) w bits e =
+pub bits_of_each-fields : (n w : ℕ) (bits : List Bool) → length bits ≡ n * w → bits_of_each w (fields n w bits) ≡ bits
+unfolding fields bits_of_each
+bits_of_each-fields zero w bits e = sym (nil_from_length bits (omega (arith, e)))
+bits_of_each-fields (suc n) w bits e =
     let size : length (take w bits) ≡ w = omega (arith, length-take w bits, e) in
     let first : bits_of w (number_of (take w bits)) ≡ take w bits = ap (λ (j : ℕ). bits_of j (number_of (take w bits))) (sym size) ∙ bits_of-number_of (take w bits) in
-    let others = low_bits-fields n w (drop w bits) (omega (arith, length-drop w bits, e)) in
-    ap (λ (bs : List Bool). bs ++ low_bits w (fields n w (drop w bits))) first ∙ ap (λ (bs : List Bool). take w bits ++ bs) others ∙ take-append-drop w bits
+    let others = bits_of_each-fields n w (drop w bits) (omega (arith, length-drop w bits, e)) in
+    ap (λ (bs : List Bool). bs ++ bits_of_each w (fields n w (drop w bits))) first ∙ ap (λ (bs : List Bool). take w bits ++ bs) others ∙ take-append-drop w bits
 
-pub fields-low_bits : (w : ℕ) (vs : List ℕ) → greatest vs < 2 ^ w → fields (length vs) w (low_bits w vs) ≡ vs
-unfolding fields low_bits greatest
-fields-low_bits w [] lt = refl
-fields-low_bits w (v ∷ vs) lt =
+pub fields-bits_of_each : (w : ℕ) (vs : List ℕ) → greatest vs < 2 ^ w → fields (length vs) w (bits_of_each w vs) ≡ vs
+unfolding fields bits_of_each greatest
+fields-bits_of_each w [] lt = refl
+fields-bits_of_each w (v ∷ vs) lt =
     let size = length-bits_of w v in
-    let front : take w (bits_of w v ++ low_bits w vs) ≡ bits_of w v = take_at (bits_of w v) (low_bits w vs) w size in
-    let rest : drop w (bits_of w v ++ low_bits w vs) ≡ low_bits w vs = drop_at (bits_of w v) (low_bits w vs) w size in
-    let first : number_of (take w (bits_of w v ++ low_bits w vs)) ≡ v = ap number_of front ∙ number_of-bits_of w v ∙ mod-eq_of_lt (omega (arith, lt)) in
-    ap (λ (x : ℕ). x ∷ fields (length vs) w (drop w (bits_of w v ++ low_bits w vs))) first
+    let front : take w (bits_of w v ++ bits_of_each w vs) ≡ bits_of w v = take_at (bits_of w v) (bits_of_each w vs) w size in
+    let rest : drop w (bits_of w v ++ bits_of_each w vs) ≡ bits_of_each w vs = drop_at (bits_of w v) (bits_of_each w vs) w size in
+    let first : number_of (take w (bits_of w v ++ bits_of_each w vs)) ≡ v = ap number_of front ∙ number_of-bits_of w v ∙ mod-eq_of_lt (omega (arith, lt)) in
+    ap (λ (x : ℕ). x ∷ fields (length vs) w (drop w (bits_of w v ++ bits_of_each w vs))) first
     ∙ ap (λ (bs : List Bool). v ∷ fields (length vs) w bs) rest
-    ∙ ap (λ (xs : List ℕ). v ∷ xs) (fields-low_bits w vs (omega (arith, lt)))
+    ∙ ap (λ (xs : List ℕ). v ∷ xs) (fields-bits_of_each w vs (omega (arith, lt)))

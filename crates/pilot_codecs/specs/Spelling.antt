@@ -2,7 +2,8 @@
 use Rattle.std.specs.Prelude.{ℕ, zero, suc, ◌+◌, ◌-◌, ◌/◌, ◌^◌, ◌<◌, ◌≤◌, max, List, [], ◌∷◌, ◌++◌, length, map, take, drop, Option, Some, None, ◌==◌, if◌then◌else◌}
 use Rattle.std.specs.List.{flat_map}
 use Rattle.pthash.specs.Sizes.{front_count_of}
-use Rattle.elias_fano.specs.Spelling.{number, run, log2_within, low_bits, is_among, last_of, ef_text}
+use Rattle.elias_fano.specs.Spelling.{number, run, log2_within, is_among, last_of, ef_text}
+use Rattle.bit_vector.specs.Bits.{bits_of_each}
 use Rattle.pilot_codecs.specs.declared.code.Code.{Code}
 use Rattle.pilot_codecs.specs.declared.code.Code.TheVariants as codes
 use Rattle.pilot_codecs.specs.declared.code.Encoding.{Encoding}
@@ -19,7 +20,7 @@ greatest (v ∷ vs) = max v (greatest vs)
 
 -- the width of the greatest value, then each value in so many bits
 unfoldable pub compact_text : List ℕ → List ℕ
-compact_text vs = number (digits_of (greatest vs)) ++ run (low_bits (digits_of (greatest vs)) vs)
+compact_text vs = number (digits_of (greatest vs)) ++ run (bits_of_each (digits_of (greatest vs)) vs)
 
 -- how many groups a list is cut into
 abbrev pub groups_for : ℕ → ℕ

@@ -77,14 +77,10 @@ impl Compact {
         ensures { IfOk result (λ c. c ≡ values.now) }
     {
         let width = digits(greatest_of(values));
-        let mut bits = BitVec::new(alloc);
-        for value in values {
-            bits.push_bits(*value, width)?;
-        }
         Ok(Compact {
             count: values.len() as u64,
             width,
-            bits,
+            bits: BitVec::from_fields(alloc, values, width)?,
         })
     }
 

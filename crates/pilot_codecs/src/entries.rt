@@ -58,7 +58,8 @@ fn all_clear(alloc: Global, size: usize) -> Result<Vec<bool>, NoMemory>
 
 // Whether each mark is set.
 fn are_all_set(used: &[bool]) -> bool
-    ensures { IsTrue result ↔ ((k : ℕ) → k < length used.now → slice_index_or used.now k false ≡ true) }
+    ensures { IsTrue result ↔
+        ((k : ℕ) → k < length used.now → slice_index_or used.now k false ≡ true) }
 {
     for u in used {
         if !*u {

@@ -1,5 +1,4 @@
-use Rattle.std.proofs.Common.{◌≡◌, ℕ, ◌/◌, ◌^◌, ◌≤◌, List, Bool, length, ap, ◌∙◌, subst, arith}
-use Rattle.bit_vector.specs.Bits.{places}
+use Rattle.std.proofs.Common.{◌≡◌, ℕ, ◌/◌, ◌^◌, ◌≤◌, length, ◌∙◌, subst, arith}
 use Rattle.elias_fano.specs.Values.{values_of}
 use Rattle.elias_fano.proofs.BuildLemmas.{built, last_high, last_of-none}
 use Rattle.elias_fano.proofs.list.EliasFano.build.Goals as goal
@@ -13,14 +12,12 @@ high_part-requires-clause-few_high c =
 pub from_parts-requires : goal.from_parts-requires
 from_parts-requires c =
     let vs = c.args.values.now in
-    let e : c.in_ok-high.high ≡ c.in_ok-high_part.field-0 = c.in_ok-high.ensures in
     (built vs c.last_value-last.result c.width_of-width.result c.in_ok-low.low c.in_ok-high.high c.requires.rising c.requires.few c.last_value-last.ensures (omega arith) c.width_of-width.ensures.width c.in_ok-low.ensures
-    (ap length e ∙ c.in_ok-high_part.ensures.len) (ap (λ (bs : List Bool). places bs) e ∙ c.in_ok-high_part.ensures.ones_at)).0
+    (c.in_ok-high.ensures ∙ c.in_ok-high_part.ensures)).0
 
 pub returns : goal.returns
 returns c =
     let vs = c.args.values.now in
-    let e : c.in_ok-high.high ≡ c.in_ok-high_part.field-0 = c.in_ok-high.ensures in
     let r : c.from_parts.result ≡ values_of c.width_of-width.result c.in_ok-low.low c.in_ok-high.high = c.from_parts.ensures in
     r ∙ (built vs c.last_value-last.result c.width_of-width.result c.in_ok-low.low c.in_ok-high.high c.requires.rising c.requires.few c.last_value-last.ensures (omega arith) c.width_of-width.ensures.width c.in_ok-low.ensures
-    (ap length e ∙ c.in_ok-high_part.ensures.len) (ap (λ (bs : List Bool). places bs) e ∙ c.in_ok-high_part.ensures.ones_at)).1
+    (c.in_ok-high.ensures ∙ c.in_ok-high_part.ensures)).1
