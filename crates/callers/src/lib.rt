@@ -1,0 +1,18 @@
+//! The short callers that the READMEs of the crates show.
+#![tactic(auto)]
+
+mod bits;
+mod buckets;
+mod codes;
+mod files;
+mod hashes;
+mod lists;
+mod searches;
+
+pub use bits::set_bits;
+pub use buckets::first_size;
+pub use codes::dictionary;
+pub use files::small;
+pub use hashes::position;
+pub use lists::last;
+pub use searches::pilots;
