@@ -1,23 +1,13 @@
 // The same parts as crates/bench_lists, in plain Rust, for `rustc -O`: the same code shapes on the same input.
+mod numbers;
+
+use numbers::Numbers;
 use std::env;
 use std::time::Instant;
 
 const BLOCK: usize = 8;
 const STEP: u64 = 512;
 const QUESTIONS: u32 = 1_000_000;
-
-struct Numbers {
-    state: u64,
-}
-
-impl Numbers {
-    fn next(&mut self) -> u64 {
-        self.state = self.state.wrapping_add(0x9e37_79b9_7f4a_7c15);
-        let z = (self.state ^ (self.state >> 30)).wrapping_mul(0xbf58_476d_1ce4_e5b9);
-        let z = (z ^ (z >> 27)).wrapping_mul(0x94d0_49bb_1331_11eb);
-        z ^ (z >> 31)
-    }
-}
 
 fn low_bits(word: u64, width: u32) -> u64 {
     if width < 64 { word & ((1 << width) - 1) } else { word }
