@@ -5,7 +5,7 @@ use Rattle.std.proofs.lemmas.Nat.{shr_split, shr_high}
 use Rattle.std.proofs.lemmas.List.{append-nil, take-append-drop, take_at, drop_at, length-take, length-drop, length-append}
 use Rattle.bit_vector.specs.Bits.{bits_of, bits_of_each, number_of, places_from, places}
 use Rattle.bit_vector.proofs.FieldLemmas.{bits_of-high, length-bits_of_each}
-use Rattle.bit_vector.proofs.BitLemmas.{length-bits_of, bits_of-append, bits_of-number_of, number_of-bits_of, length-places_from}
+use Rattle.bit_vector.proofs.BitLemmas.{length-bits_of, bits_of-number_of, number_of-bits_of, length-places_from}
 use Rattle.elias_fano.specs.Spelling.{last_of, rises, high_places, is_among, marks, high_len, low_width, ef_text, text_at, number, run, IsRising}
 use Rattle.elias_fano.specs.Values.{joined, values_of, AreParts, AreValues}
 use Rattle.elias_fano.proofs.ValueLemmas.{low-lt, length-joined, rises-parts, rises-yes, bound-le-last}

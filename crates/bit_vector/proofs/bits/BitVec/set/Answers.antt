@@ -1,5 +1,5 @@
-use Rattle.std.proofs.Common.{◌≡◌, ℕ, Bool, List, true, length, set, sym, ap, ◌∙◌, arith}
-use Rattle.bit_vector.specs.Bits.{bits_of, words_number}
+use Rattle.std.proofs.Common.{◌≡◌, Bool, List, true, length, set, sym, ap, ◌∙◌, arith}
+use Rattle.bit_vector.specs.Bits.{words_number}
 use Rattle.bit_vector.proofs.BitLemmas.{length-bits_of}
 use Rattle.bit_vector.proofs.SetLemmas.{bit_written}
 use Rattle.bit_vector.proofs.bits.BitVec.set.Goals as goal

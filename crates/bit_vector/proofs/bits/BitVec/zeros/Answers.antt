@@ -1,5 +1,5 @@
-use Rattle.std.proofs.Common.{◌≡◌, ℕ, List, replicate, false, ap, ◌∙◌, arith}
-use Rattle.bit_vector.specs.Bits.{bits_of, words_number, words_for}
+use Rattle.std.proofs.Common.{ℕ, List, ap, ◌∙◌, arith}
+use Rattle.bit_vector.specs.Bits.{bits_of, words_number}
 use Rattle.bit_vector.proofs.SetLemmas.{zeros_packed, zeros_bits}
 use Rattle.bit_vector.proofs.bits.BitVec.zeros.Goals as goal
 
