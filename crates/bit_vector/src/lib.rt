@@ -8,7 +8,7 @@ mod words;
 
 pub use bits::{BitVec, NoMemory};
 pub use select::Selector;
-pub use words::{append_fields, bits_at};
+pub use words::{append_fields, bits_at, is_packed};
 
 // How many words a count of the ones before them stands for.
 const BLOCK: usize = 8;

@@ -11,7 +11,7 @@ mod writing;
 pub use bit_vector::NoMemory;
 pub use fault::{COUNT, FormFault, LAST, ORDER, PADDING, ReadErr, SHORT, WIDTH};
 pub use list::EliasFano;
-pub use reading::{read_list, read_number, read_words};
+pub use reading::{append_words, read_list, read_number};
 pub use writing::put_numbers;
 
 #[cfg(test)]

@@ -1,4 +1,4 @@
-ghost use Rattle.std.specs.Prelude.{◌≡◌, ◌+◌, ◌*◌, ◌/◌, ◌%◌, ◌^◌, ◌<◌, ◌≤◌, length, take, drop, IfOk};
+ghost use Rattle.std.specs.Prelude.{◌≡◌, ◌+◌, ◌*◌, ◌/◌, ◌%◌, ◌^◌, ◌<◌, ◌≤◌, ◌++◌, length, take, drop, OnOk};
 ghost use Rattle.std.specs.Int.{w64, from_le_bytes};
 ghost use Rattle.bit_vector.specs.Bits.{words_for};
 ghost use Rattle.elias_fano.specs.Spelling.{low_width, high_len};
@@ -36,16 +36,17 @@ pub fn read_number(at: u64, bytes: &[u8]) -> Result<(u64, &[u8]), ReadErr>
     Ok((number_in(bytes, 0), &bytes[8..]))
 }
 
-/// As many numbers as are asked for.
-pub fn read_words(alloc: Global, bytes: &[u8], count: usize) -> Result<Vec<u64>, NoMemory>
+/// Appends as many numbers as are asked for; on want of memory a part of them.
+pub fn append_words(words: &mut Vec<u64>, bytes: &[u8], count: usize) -> Result<(), NoMemory>
     requires { 8 * count ≤ length bytes.now }
-    ensures { IfOk result (λ v. v.items ≡ words_in count bytes.now) }
+    ensures ok { OnOk result (words.new.items ≡ words.old.items ++ words_in count bytes.now) }
+    ensures kept { take (length words.old.items) words.new.items ≡ words.old.items }
 {
-    let mut words = Vec::with_capacity(alloc, count)?;
+    words.reserve(count)?;
     for i in 0..count {
         words.push(number_in(bytes, 8 * i))?;
     }
-    Ok(words)
+    Ok(())
 }
 
 fn run_of(alloc: Global, at: u64, len: u64, bytes: &[u8]) -> Result<(BitVec, &[u8]), ReadErr>
@@ -57,7 +58,8 @@ fn run_of(alloc: Global, at: u64, len: u64, bytes: &[u8]) -> Result<(BitVec, &[u
     if (bytes.len() as u64) < 8 * count {
         return Err(form_fault(at, SHORT));
     }
-    let words = read_words(alloc, bytes, count as usize)?;
+    let mut words = Vec::new(alloc);
+    append_words(&mut words, bytes, count as usize)?;
     match BitVec::from_words(words, len) {
         None => Err(form_fault(at + 8 * count - 8, PADDING)),
         Some(bits) => Ok((bits, &bytes[8 * count as usize..])),

@@ -1,6 +1,0 @@
-use Rattle.std.proofs.Common.{◌≡◌}
-use Rattle.elias_fano.specs.Reading.{words_in}
-use Rattle.elias_fano.proofs.reading.read_words.Given as goal
-
-abbrev pub invariant-loop-i : goal.invariant-loop-i
-invariant-loop-i l = l.words.items ≡ words_in l.i l.bytes
