@@ -121,8 +121,10 @@ pub fn read_values<'a>(
 ) -> Result<(u32, &'a [u8]), ReadErr>
     requires few { count ≤ 2 ^ 30 }
     requires place { at ≤ 2 ^ 63 + 2 ^ 50 }
-    ensures values { Gives (λ x. (values_in count x.0 (drop (length words.old.items) words.new.items),
-        x.1.now)) result (compact_at at count bytes.now) }
+    ensures values { Gives (λ x. (
+      values_in count x.0 (drop (length words.old.items) words.new.items),
+      x.1.now,
+    )) result (compact_at at count bytes.now) }
     ensures kept_so { IfOk result (λ x. IsCompact count x.0
         (drop (length words.old.items) words.new.items)) }
     ensures kept { take (length words.old.items) words.new.items ≡ words.old.items }
@@ -146,8 +148,10 @@ fn read_packed<'a>(
     requires few { count ≤ 2 ^ 30 }
     requires wide { width ≤ 64 }
     requires place { at ≤ 2 ^ 63 + 2 ^ 50 }
-    ensures values { Gives (λ x. (values_in count width (drop (length words.old.items) words.new.items),
-        x.now)) result (packed_at at count width bytes.now) }
+    ensures values { Gives (λ x. (
+      values_in count width (drop (length words.old.items) words.new.items),
+      x.now,
+    )) result (packed_at at count width bytes.now) }
     ensures kept_so { OnOk result (IsCompact count width
         (drop (length words.old.items) words.new.items)) }
     ensures kept { take (length words.old.items) words.new.items ≡ words.old.items }
