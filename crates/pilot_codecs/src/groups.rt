@@ -75,6 +75,14 @@ impl Groups {
         Ok(())
     }
 
+    /// Gives back the memory that the groups do not take.
+    pub fn shrink(&mut self)
+        ensures { self.new ≡ self.old }
+    {
+        self.heads.shrink_to_fit();
+        self.words.shrink_to_fit();
+    }
+
     /// A value of a group.
     pub fn get(&self, group: usize, i: u64) -> u64
         requires { i < length (slice_index_or self.now group []) }
@@ -143,5 +151,6 @@ pub fn read_groups(
         left -= size;
         rest = after;
     }
+    groups.shrink();
     Ok((groups, rest))
 }

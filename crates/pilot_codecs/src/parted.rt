@@ -43,6 +43,7 @@ impl Parted {
             groups.push(group)?;
             rest = after;
         }
+        groups.shrink();
         Ok(Parted {
             count: values.len() as u64,
             groups,

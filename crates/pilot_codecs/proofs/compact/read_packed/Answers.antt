@@ -1,6 +1,6 @@
 use Rattle.std.proofs.Common.{◌≡◌, ℕ, ◌*◌, ◌-◌, ◌++◌, List, length, take, drop, refl, sym, ap, ◌∙◌, subst, arith}
 use Rattle.std.proofs.lemmas.Bool.{false≢true}
-use Rattle.bit_vector.specs.Bits.{bits_of, words_number, words_for, IsPacked}
+use Rattle.bit_vector.specs.Bits.{bits_of, words_number, IsPacked}
 use Rattle.elias_fano.specs.Reading.{words_in}
 use Rattle.elias_fano.proofs.FormLemmas.{length-words_in}
 use Rattle.pilot_codecs.specs.Spelling.{digits_of, greatest}

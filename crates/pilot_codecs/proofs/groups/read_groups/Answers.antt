@@ -1,4 +1,4 @@
-use Rattle.std.proofs.Common.{◌≡◌, ℕ, ◌+◌, ◌-◌, ◌≤◌, min, List, length, ap, ◌∙◌, arith}
+use Rattle.std.proofs.Common.{◌≡◌, ℕ, ◌+◌, ◌-◌, ◌≤◌, min, List, length, Ok, sym, ap, ◌∙◌, arith}
 use Rattle.pilot_codecs.specs.Spelling.{compact_text, groups_for}
 use Rattle.pilot_codecs.specs.Reading.{groups_at}
 use Rattle.pilot_codecs.proofs.GroupLemmas.{with_front, goes_on, ends, is_done, more_read, compact_at-fails}
@@ -37,4 +37,6 @@ loop-left-preserved c =
     }
 
 pub returns : goal.returns
-returns c = is_done c.loop-left.groups c.loop-left.left c.loop-left.place c.loop-left.rest.now (groups_at (groups_for c.args.count) c.args.at c.args.count c.args.bytes.now) (omega (arith, c.loop-left-test.false)) c.loop-left.invariant.so_far
+returns c =
+    is_done c.loop-left.groups c.loop-left.left c.loop-left.place c.loop-left.rest.now (groups_at (groups_for c.args.count) c.args.at c.args.count c.args.bytes.now) (omega (arith, c.loop-left-test.false)) c.loop-left.invariant.so_far
+    ∙ ap (λ (gs : List (List ℕ)). Ok (gs, c.loop-left.rest.now)) (sym c.shrink.ensures)

@@ -1,4 +1,4 @@
-use Rattle.std.proofs.Common.{◌≡◌, ℕ, List, length, drop, sym, ap, ◌∙◌, subst}
+use Rattle.std.proofs.Common.{◌≡◌, ℕ, List, length, drop, subst}
 use Rattle.pilot_codecs.specs.Parts.{values_in, IsCompact}
 use Rattle.pilot_codecs.proofs.compact.Compact.encode.Goals as goal
 

@@ -24,14 +24,14 @@ pub invariant_of-result : goal.invariant_of-result
 invariant_of-result c =
     let vs = c.args.values.now in
     let none : length c.loop-rest.rest.now ≡ 0 = eqb-true _ _ (sym c.is_empty.ensures ∙ c.loop-rest-test.false) in
-    let all : c.loop-rest.groups ≡ groups_of (groups_for (length vs)) vs = sym (append-nil c.loop-rest.groups) ∙ ap (λ (gs : List (List ℕ)). c.loop-rest.groups ++ gs) (sym (groups_of-none c.loop-rest.rest.now none)) ∙ c.loop-rest.invariant.so_far in
-    let same : flat_map (λ g. g) c.loop-rest.groups ≡ vs = ap (λ (gs : List (List ℕ)). flat_map (λ g. g) gs) all ∙ flat-groups_of (groups_for (length vs)) vs (omega arith) in
+    let all : c.shrink.new.self ≡ groups_of (groups_for (length vs)) vs = c.shrink.ensures ∙ sym (append-nil c.loop-rest.groups) ∙ ap (λ (gs : List (List ℕ)). c.loop-rest.groups ++ gs) (sym (groups_of-none c.loop-rest.rest.now none)) ∙ c.loop-rest.invariant.so_far in
+    let same : flat_map (λ g. g) c.shrink.new.self ≡ vs = ap (λ (gs : List (List ℕ)). flat_map (λ g. g) gs) all ∙ flat-groups_of (groups_for (length vs)) vs (omega arith) in
     record { few = c.requires; count_is = ap length same; cut = ap (λ (xs : List ℕ). groups_of (groups_for (length vs)) xs) same ∙ sym all }
 
 pub returns : goal.returns
 returns c =
     let vs = c.args.values.now in
     let none : length c.loop-rest.rest.now ≡ 0 = eqb-true _ _ (sym c.is_empty.ensures ∙ c.loop-rest-test.false) in
-    let all : c.loop-rest.groups ≡ groups_of (groups_for (length vs)) vs = sym (append-nil c.loop-rest.groups) ∙ ap (λ (gs : List (List ℕ)). c.loop-rest.groups ++ gs) (sym (groups_of-none c.loop-rest.rest.now none)) ∙ c.loop-rest.invariant.so_far in
-    let same : flat_map (λ g. g) c.loop-rest.groups ≡ vs = ap (λ (gs : List (List ℕ)). flat_map (λ g. g) gs) all ∙ flat-groups_of (groups_for (length vs)) vs (omega arith) in
+    let all : c.shrink.new.self ≡ groups_of (groups_for (length vs)) vs = c.shrink.ensures ∙ sym (append-nil c.loop-rest.groups) ∙ ap (λ (gs : List (List ℕ)). c.loop-rest.groups ++ gs) (sym (groups_of-none c.loop-rest.rest.now none)) ∙ c.loop-rest.invariant.so_far in
+    let same : flat_map (λ g. g) c.shrink.new.self ≡ vs = ap (λ (gs : List (List ℕ)). flat_map (λ g. g) gs) all ∙ flat-groups_of (groups_for (length vs)) vs (omega arith) in
     same
