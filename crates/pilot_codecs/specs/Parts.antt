@@ -31,7 +31,7 @@ pub record IsGroup (words : List ℕ) (head : Head) : Type 0 where
   pub within : head.start + words_for (head.count * head.width) ≤ length words
   pub compact : IsCompact head.count head.width (words_under words head)
 
--- so is each group
+-- the words of each group are among these
 abbrev pub AreGroups : List ℕ → List Head → Type 0
 AreGroups words heads = All (IsGroup words) heads
 

@@ -87,7 +87,7 @@ fn are_clear(words: &[u64], len: u64) -> bool
 /// Appends the words of values, from a new one on, and gives the width; on want of memory a part of them.
 pub fn append_values(words: &mut Vec<u64>, values: &[u64]) -> Result<u32, NoMemory>
     requires { length values.now ≤ 2 ^ 30 }
-    ensures kept_so { IfOk result (λ w. IsCompact (length values.now) w
+    ensures compact { IfOk result (λ w. IsCompact (length values.now) w
         (drop (length words.old.items) words.new.items)) }
     ensures values { IfOk result (λ w. values_in (length values.now) w
         (drop (length words.old.items) words.new.items) ≡ values.now) }
@@ -125,7 +125,7 @@ pub fn read_values<'a>(
       values_in count x.0 (drop (length words.old.items) words.new.items),
       x.1.now,
     )) result (compact_at at count bytes.now) }
-    ensures kept_so { IfOk result (λ x. IsCompact count x.0
+    ensures compact { IfOk result (λ x. IsCompact count x.0
         (drop (length words.old.items) words.new.items)) }
     ensures kept { take (length words.old.items) words.new.items ≡ words.old.items }
 {
@@ -152,7 +152,7 @@ fn read_packed<'a>(
       values_in count width (drop (length words.old.items) words.new.items),
       x.now,
     )) result (packed_at at count width bytes.now) }
-    ensures kept_so { OnOk result (IsCompact count width
+    ensures compact { OnOk result (IsCompact count width
         (drop (length words.old.items) words.new.items)) }
     ensures kept { take (length words.old.items) words.new.items ≡ words.old.items }
 {

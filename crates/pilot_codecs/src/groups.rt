@@ -114,8 +114,9 @@ impl Groups {
     ) -> Result<&'a [u8], ReadErr>
         requires few { count ≤ 2 ^ 30 }
         requires place { at ≤ 2 ^ 63 + 2 ^ 50 }
-        ensures { Gives (λ x. (self.new, x.now)) result
+        ensures groups { Gives (λ x. (self.new, x.now)) result
             (group_more_at self.old at count bytes.now) }
+        ensures err { OnErr result (self.new ≡ self.old) }
     {
         let start = self.words.len();
         let (width, rest) = read_values(&mut self.words, at, count, bytes)?;

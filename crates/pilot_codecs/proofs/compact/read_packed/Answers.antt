@@ -93,8 +93,8 @@ returns-clause-values c =
     (ap (λ (xs : List ℕ). digits_of (greatest (values_in count w xs))) (sym same) ∙ sym d ∙ c.if-digits-width.false)
     (subst (λ (xs : List ℕ). IsPacked xs (count * w)) same (subst (λ (k : ℕ). IsPacked read k) wide (c.if-not-are_clear.ensures.0 refl))) refl
 
-pub returns-clause-kept_so : goal.returns-clause-kept_so
-returns-clause-kept_so c =
+pub returns-clause-compact : goal.returns-clause-compact
+returns-clause-compact c =
     let count = c.args.count in
     let w = c.args.width in
     let bytes = c.args.bytes.now in

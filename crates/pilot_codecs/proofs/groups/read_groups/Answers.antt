@@ -12,12 +12,12 @@ pub returns-in_err-after : goal.returns-in_err-after
 returns-in_err-after c =
     let s : c.if-left-lt-GROUP.size ≡ min 256 c.loop-left.left = elim c.if-left-lt-GROUP.branch [ then-left-lt-GROUP w ↦ omega (arith, w.size-is, w.if-left-lt-GROUP.true) | else-left-lt-GROUP w ↦ omega (arith, w.size-is, w.if-left-lt-GROUP.false) ] in
     let p = err_from_is_err_and c.from_residual.result c.from_residual.ensures.1 in
-    let fault = compact_at-fails c.in_err-after.field-0.0 c.loop-left.groups c.loop-left.place c.if-left-lt-GROUP.size c.loop-left.rest.now c.in_err-after.ensures in
+    let fault = compact_at-fails c.in_err-after.field-0.0 c.loop-left.groups c.loop-left.place c.if-left-lt-GROUP.size c.loop-left.rest.now c.in_err-after.ensures.groups in
     rw (p.1, p.2) (ends c.in_err-after.field-0.0 c.loop-left.groups c.loop-left.left c.loop-left.place c.if-left-lt-GROUP.size c.loop-left.rest.now (groups_at (groups_for c.args.count) c.args.at c.args.count c.args.bytes.now) c.loop-left-test.true s fault c.loop-left.invariant.so_far)
 
 pub overflow_sub-place : goal.overflow_sub-place
 overflow_sub-place c =
-    let m = more_read c.loop-left.groups c.read_more.new.self c.loop-left.place c.if-left-lt-GROUP.size c.loop-left.rest.now c.in_ok-after.after.now c.in_ok-after.ensures in
+    let m = more_read c.loop-left.groups c.read_more.new.self c.loop-left.place c.if-left-lt-GROUP.size c.loop-left.rest.now c.in_ok-after.after.now c.in_ok-after.ensures.groups in
     let t = compact_takes c.loop-left.place c.if-left-lt-GROUP.size c.loop-left.rest.now m.group c.in_ok-after.after.now c.loop-left.invariant.fits m.read in
     let shorter : length c.in_ok-after.after.now ≤ length c.loop-left.rest.now = omega (arith, ap length t.taken.parts, length-append (compact_text m.group) c.in_ok-after.after.now) in
     shorter
@@ -25,7 +25,7 @@ overflow_sub-place c =
 pub loop-left-preserved : goal.loop-left-preserved
 loop-left-preserved c =
     let s : c.if-left-lt-GROUP.size ≡ min 256 c.loop-left.left = elim c.if-left-lt-GROUP.branch [ then-left-lt-GROUP w ↦ omega (arith, w.size-is, w.if-left-lt-GROUP.true) | else-left-lt-GROUP w ↦ omega (arith, w.size-is, w.if-left-lt-GROUP.false) ] in
-    let m = more_read c.loop-left.groups c.read_more.new.self c.loop-left.place c.if-left-lt-GROUP.size c.loop-left.rest.now c.in_ok-after.after.now c.in_ok-after.ensures in
+    let m = more_read c.loop-left.groups c.read_more.new.self c.loop-left.place c.if-left-lt-GROUP.size c.loop-left.rest.now c.in_ok-after.after.now c.in_ok-after.ensures.groups in
     let t = compact_takes c.loop-left.place c.if-left-lt-GROUP.size c.loop-left.rest.now m.group c.in_ok-after.after.now c.loop-left.invariant.fits m.read in
     let shorter : length c.in_ok-after.after.now ≤ length c.loop-left.rest.now = omega (arith, ap length t.taken.parts, length-append (compact_text m.group) c.in_ok-after.after.now) in
     record {

@@ -12,7 +12,7 @@ returns-in_err-width c =
 pub invariant_of-result : goal.invariant_of-result
 invariant_of-result c =
     let ws = c.read_values.new.words.items in
-    subst (λ (xs : List ℕ). IsCompact c.args.count c.in_ok-width.width (drop (length xs) ws)) c.new-words.ensures.items c.in_ok-width.ensures.kept_so
+    subst (λ (xs : List ℕ). IsCompact c.args.count c.in_ok-width.width (drop (length xs) ws)) c.new-words.ensures.items c.in_ok-width.ensures.compact
 
 pub returns : goal.returns
 returns c =

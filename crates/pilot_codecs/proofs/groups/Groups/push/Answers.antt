@@ -34,7 +34,7 @@ invariant_of-self-2 c =
     let new = c.append_values.new.words.items in
     let heads = c.self.inside.heads.items in
     let head : Head = record { count = length c.args.values.now; width = c.in_ok-width.width; start = c.len-start.result } in
-    let added : IsAdded old new head = record { kept = c.append_values.ensures.kept; start = omega (arith, c.len-start.ensures, c.self.inside.words.ok.0); compact = c.in_ok-width.ensures.kept_so } in
+    let added : IsAdded old new head = record { kept = c.append_values.ensures.kept; start = omega (arith, c.len-start.ensures, c.self.inside.words.ok.0); compact = c.in_ok-width.ensures.compact } in
     AreGroups-added old new heads c.push.new.self.items head c.self.invariant added c.in_ok-push.ensures.items
 
 pub returns-clause-ok : goal.returns-clause-ok
@@ -43,7 +43,7 @@ returns-clause-ok c =
     let new = c.append_values.new.words.items in
     let heads = c.self.inside.heads.items in
     let head : Head = record { count = length c.args.values.now; width = c.in_ok-width.width; start = c.len-start.result } in
-    let added : IsAdded old new head = record { kept = c.append_values.ensures.kept; start = omega (arith, c.len-start.ensures, c.self.inside.words.ok.0); compact = c.in_ok-width.ensures.kept_so } in
+    let added : IsAdded old new head = record { kept = c.append_values.ensures.kept; start = omega (arith, c.len-start.ensures, c.self.inside.words.ok.0); compact = c.in_ok-width.ensures.compact } in
     groups-added old new heads c.push.new.self.items head c.self.invariant added c.in_ok-push.ensures.items
     ∙ ap (λ (gs : List (List ℕ)). gs ++ values_in head.count head.width (drop (length old) new) ∷ []) c.self.view_is
     ∙ ap (λ (vs : List ℕ). c.args.self.now ++ vs ∷ []) c.in_ok-width.ensures.values
