@@ -3,18 +3,20 @@ use Rattle.std.proofs.Common.{◌≡◌, ℕ, ◌+◌, ◌*◌, ◌-◌, ◌/◌
 use Rattle.std.proofs.lemmas.Nat.{mul-le}
 use Rattle.std.proofs.lemmas.Bool.{cases_lt, cases_eq, lt-ltb, le-ltb, eq-eqb, ne_eqb}
 use Rattle.std.proofs.lemmas.List.{take_more, take_rest}
-use Rattle.bit_vector.specs.Bits.{bits_of, words_number, words_for, IsPacked, bits_of_each}
-use Rattle.bit_vector.proofs.ViewLemmas.{bits_read}
+use Rattle.std.specs.List.{flat_map}
+use Rattle.bit_vector.specs.Bits.{bits_of, words_number, words_for, packed, IsPacked, bits_of_each}
+use Rattle.bit_vector.proofs.BitLemmas.{length-bits_of}
+use Rattle.bit_vector.proofs.ViewLemmas.{bits_read, packed-bits_of}
 use Rattle.elias_fano.specs.declared.fault.ReadErr.{ReadErr}
 use Rattle.elias_fano.specs.declared.fault.ReadErr.TheVariants as errors
 use Rattle.elias_fano.specs.Spelling.{number, run}
 use Rattle.elias_fano.specs.Reading.{Fails, fault, number_at, words_in}
-use Rattle.bit_vector.proofs.FieldLemmas.{length-bits_of_each}
+use Rattle.bit_vector.proofs.FieldLemmas.{fields_packed}
 use Rattle.elias_fano.proofs.FormLemmas.{IsBytes, packed_if_clear}
 use Rattle.pilot_codecs.specs.Spelling.{digits_of, greatest, compact_text}
 use Rattle.pilot_codecs.specs.Reading.{fields, fields_in, packed_at, compact_at}
-use Rattle.pilot_codecs.specs.Parts.{IsCompact}
-use Rattle.pilot_codecs.proofs.FieldLemmas.{lt-digits_of, greatest-push, get_or-fields, fields-bits_of_each, bits_of_each-fields}
+use Rattle.pilot_codecs.specs.Parts.{values_in, IsCompact}
+use Rattle.pilot_codecs.proofs.FieldLemmas.{lt-digits_of, greatest-push, length-fields, get_or-fields, fields-bits_of_each, bits_of_each-fields}
 
 pub greatest-more : (vs : List ℕ) (i : ℕ) → i < length vs → greatest (take (i + 1) vs) ≡ max (greatest (take i vs)) (get_or vs i 0)
 greatest-more vs i lt = ap greatest (take_more vs i 0 lt) ∙ greatest-push (take i vs) (get_or vs i 0)
@@ -25,16 +27,32 @@ place_fits i w count lt = omega (arith, mul-le (i + 1) w count w (omega arith) (
 pub field_at : (n count w i : ℕ) → i < count → n / 2 ^ (i * w) % 2 ^ w ≡ get_or (fields count w (bits_of (count * w) n)) i 0
 field_at n count w i lt = bits_read n (count * w) (i * w) w (place_fits i w count lt) ∙ sym (get_or-fields count w (bits_of (count * w) n) i lt)
 
-pub compact_made : (vs : List ℕ) (w : ℕ) (bits : List Bool) → length vs ≤ 2 ^ 30 → greatest vs < 2 ^ 64 → w ≡ digits_of (greatest vs) → bits ≡ bits_of_each w vs → IsCompact (length vs) w bits × (fields (length vs) w bits ≡ vs)
-compact_made vs w bits few small wide e =
+-- the words that values are packed into hold these values, and no more words than they need
+pub compact_made : (vs : List ℕ) (w : ℕ) (ws : List ℕ) → length vs ≤ 2 ^ 30 → greatest vs < 2 ^ 64 → w ≡ digits_of (greatest vs) → ws ≡ packed (bits_of_each w vs) → IsCompact (length vs) w ws × (values_in (length vs) w ws ≡ vs)
+compact_made vs w ws few small wide e =
     let fits : greatest vs < 2 ^ w = subst (λ (j : ℕ). greatest vs < 2 ^ j) (sym wide) (lt-digits_of (greatest vs) small) in
-    let same : fields (length vs) w bits ≡ vs = ap (λ (bs : List Bool). fields (length vs) w bs) e ∙ fields-bits_of_each w vs fits in
-    (record { few = few; wide = wide ∙ ap (λ (xs : List ℕ). digits_of (greatest xs)) (sym same); len = ap length e ∙ length-bits_of_each w vs }, same)
+    let p = fields_packed w (length vs * w) vs ws e refl in
+    let same : values_in (length vs) w ws ≡ vs = ap (λ (bs : List Bool). fields (length vs) w bs) p.1 ∙ fields-bits_of_each w vs fits in
+    (record { few = few; wide = wide ∙ ap (λ (xs : List ℕ). digits_of (greatest xs)) (sym same); packed_are = p.0 }, same)
 
-pub compact_text-fields : (count w : ℕ) (bits : List Bool) → IsCompact count w bits → compact_text (fields count w bits) ≡ number w ++ run bits
-unfolding compact_text
-compact_text-fields count w bits p =
-    ap (λ (j : ℕ). number j ++ run (bits_of_each j (fields count w bits))) (sym p.wide) ∙ ap (λ (bs : List Bool). number w ++ run bs) (bits_of_each-fields count w bits p.len)
+pub compact_text-values_in : (count w : ℕ) (ws : List ℕ) → IsCompact count w ws → compact_text (values_in count w ws) ≡ number w ++ flat_map number ws
+unfolding compact_text run
+compact_text-values_in count w ws p =
+    let bits = bits_of (count * w) (words_number ws) in
+    ap (λ (j : ℕ). number j ++ flat_map number (packed (bits_of_each j (fields count w bits)))) (sym p.wide)
+    ∙ ap (λ (bs : List Bool). number w ++ flat_map number (packed bs)) (bits_of_each-fields count w bits (length-bits_of (count * w) (words_number ws)))
+    ∙ ap (λ (xs : List ℕ). number w ++ flat_map number xs) (packed-bits_of ws (count * w) p.packed_are)
+
+pub length-values_in : (count w : ℕ) (ws : List ℕ) → length (values_in count w ws) ≡ count
+length-values_in count w ws = length-fields count w (bits_of (count * w) (words_number ws))
+
+-- a value by its place among the bits
+pub value_at : (count w i at : ℕ) (ws : List ℕ) → i < count → at ≡ i * w → words_number ws / 2 ^ at % 2 ^ w ≡ get_or (values_in count w ws) i 0
+value_at count w i at ws lt e = ap (λ (j : ℕ). words_number ws / 2 ^ j % 2 ^ w) e ∙ field_at (words_number ws) count w i lt
+
+-- its bits are among those of the words
+pub value_within : (count w i at : ℕ) (ws : List ℕ) → IsCompact count w ws → i < count → at ≡ i * w → at + w ≤ 64 * length ws
+value_within count w i at ws p lt e = omega (arith, e, place_fits i w count lt, p.packed_are.count)
 
 -- ---- reading after the width
 

@@ -1,13 +1,16 @@
 -- Groups of a list, and reading them one after the other, as a loop does.
-use Rattle.std.proofs.Common.{◌≡◌, ℕ, zero, suc, ◌+◌, ◌*◌, ◌-◌, ◌/◌, ◌%◌, ◌<◌, ◌≤◌, min, List, [], ◌∷◌, ◌++◌, length, get_or, take, drop, Result, Ok, Err, refl, sym, ap, ◌∙◌, append_assoc, arith}
+use Rattle.std.proofs.Common.{◌≡◌, ℕ, zero, suc, ◌+◌, ◌*◌, ◌-◌, ◌/◌, ◌%◌, ◌<◌, ◌≤◌, min, List, [], ◌∷◌, ◌++◌, length, get_or, take, drop, Some, Result, Ok, Err, refl, sym, ap, ◌∙◌, append_assoc, arith}
 use Rattle.std.specs.List.{flat_map, slice_get}
 use Rattle.std.proofs.lemmas.List.{append-nil, drop-drop, take-append-drop, drop_all, length-drop, length-take, get_or_default}
 use Rattle.elias_fano.specs.declared.fault.FormFault.{FormFault}
 use Rattle.elias_fano.specs.declared.fault.ReadErr.{ReadErr}
 use Rattle.elias_fano.specs.declared.fault.ReadErr.TheVariants as errors
 use Rattle.elias_fano.specs.Reading.{◌>>=◌, Fails}
+use Rattle.elias_fano.proofs.LawLemmas.{bind_ok, ok_is}
+use Rattle.elias_fano.proofs.ValueLemmas.{slice_get-is}
 use Rattle.pilot_codecs.specs.Spelling.{groups_for, groups_of}
 use Rattle.pilot_codecs.specs.Reading.{compact_at, groups_at}
+use Rattle.pilot_codecs.specs.Parts.{group_more_at}
 
 pub groups_for-more : (count : ℕ) → 0 < count → groups_for count ≡ suc (groups_for (count - 256))
 groups_for-more count lt = omega arith
@@ -52,12 +55,22 @@ slice_get-drop (suc k) [] r i e = refl
 slice_get-drop (suc k) (x ∷ xs) r zero e = absurd (omega arith)
 slice_get-drop (suc k) (x ∷ xs) r (suc i) e = slice_get-drop k xs r i (omega arith)
 
--- a value by its group and its place in the group
-pub slice_get-group : (groups : List (List ℕ)) (vs : List ℕ) (i : ℕ) (group : List ℕ) → groups_of (groups_for (length vs)) vs ≡ groups → i < length vs → group ≡ get_or groups (i / 256) group → slice_get group (i % 256) ≡ slice_get vs i
-slice_get-group groups vs i group cut lt e =
+group_is : (groups : List (List ℕ)) (vs : List ℕ) (i : ℕ) → groups_of (groups_for (length vs)) vs ≡ groups → i < length vs → get_or groups (i / 256) [] ≡ take 256 (drop (256 * (i / 256)) vs)
+group_is groups vs i cut lt = ap (λ (gs : List (List ℕ)). get_or gs (i / 256) []) (sym cut) ∙ get_or-groups_of (groups_for (length vs)) vs (i / 256) [] (omega arith)
+
+-- a value has a place in its group
+pub within_group : (groups : List (List ℕ)) (vs : List ℕ) (i : ℕ) → groups_of (groups_for (length vs)) vs ≡ groups → i < length vs → i % 256 < length (get_or groups (i / 256) [])
+within_group groups vs i cut lt =
     let g = i / 256 in
-    let found : group ≡ take 256 (drop (256 * g) vs) = e ∙ ap (λ (gs : List (List ℕ)). get_or gs g group) (sym cut) ∙ get_or-groups_of (groups_for (length vs)) vs g group (omega arith) in
-    ap (λ (xs : List ℕ). slice_get xs (i % 256)) found ∙ slice_get-take 256 (drop (256 * g) vs) (i % 256) (omega arith) ∙ slice_get-drop (256 * g) vs (i % 256) i (omega arith)
+    let size : length (get_or groups g []) ≡ min 256 (length (drop (256 * g) vs)) = ap length (group_is groups vs i cut lt) ∙ length-take 256 (drop (256 * g) vs) in
+    omega (arith, size, length-drop (256 * g) vs)
+
+-- a value by its group and its place in the group
+pub get_or-group : (groups : List (List ℕ)) (vs : List ℕ) (i : ℕ) → groups_of (groups_for (length vs)) vs ≡ groups → i < length vs → Some (get_or (get_or groups (i / 256) []) (i % 256) 0) ≡ slice_get vs i
+get_or-group groups vs i cut lt =
+    let g = i / 256 in
+    let r = i % 256 in
+    sym (slice_get-is (get_or groups g []) r 0 (within_group groups vs i cut lt)) ∙ ap (λ (xs : List ℕ). slice_get xs r) (group_is groups vs i cut lt) ∙ slice_get-take 256 (drop (256 * g) vs) r (omega arith) ∙ slice_get-drop (256 * g) vs r i (omega arith)
 
 -- ---- reading
 
@@ -100,3 +113,34 @@ is_done front left place bytes total e so_far =
     let k : groups_for left ≡ 0 = omega arith in
     let one : with_front front (groups_at (groups_for left) place left bytes) ≡ Ok (front, bytes) = rw k (ap (λ (gs : List (List ℕ)). Ok (gs, bytes)) (append-nil front)) in
     sym so_far ∙ one
+
+-- ---- a group more
+
+pub record IsMore (groups new : List (List ℕ)) (at count : ℕ) (bytes after : List ℕ) : Type 0 where
+  pub group : List ℕ
+  pub read : compact_at at count bytes ≡ Ok (group, after)
+  pub more : new ≡ groups ++ group ∷ []
+
+pub more_read : (groups new : List (List ℕ)) (at count : ℕ) (bytes after : List ℕ) → group_more_at groups at count bytes ≡ Ok (new, after) → IsMore groups new at count bytes after
+more_read groups new at count bytes after e =
+    let a = bind_ok (compact_at at count bytes) (λ x. Ok (groups ++ x.0 ∷ [], x.1)) (new, after) e in
+    let both = ok_is {A = List (List ℕ) × List ℕ} (groups ++ a.0.0 ∷ [], a.0.1) (new, after) a.2 in
+    record { group = a.0.0; read = a.1 ∙ ap (λ (r : List ℕ). Ok (a.0.0, r)) (ap (λ (p : List (List ℕ) × List ℕ). p.1) both); more = sym (ap (λ (p : List (List ℕ) × List ℕ). p.0) both) }
+
+pub group_more_at-ok : (groups : List (List ℕ)) (at count : ℕ) (bytes group after : List ℕ) → compact_at at count bytes ≡ Ok (group, after) → group_more_at groups at count bytes ≡ Ok (groups ++ group ∷ [], after)
+group_more_at-ok groups at count bytes group after h = rw h refl
+
+pub group_more_at-fails : (e : ReadErr) (groups : List (List ℕ)) (at count : ℕ) (bytes : List ℕ) → Fails e (compact_at at count bytes) → Fails e (group_more_at groups at count bytes)
+group_more_at-fails errors.NoMemory groups at count bytes h = tt
+group_more_at-fails (errors.Form f) groups at count bytes h = rw h refl
+
+abbrev pub with_more : List (List ℕ) → List ℕ × List ℕ → Result (List (List ℕ) × List ℕ) FormFault
+with_more groups x = Ok (groups ++ x.0 ∷ [], x.1)
+
+not_more : (groups : List (List ℕ)) (read : Result (List ℕ × List ℕ) FormFault) (f : FormFault) → (read >>= with_more groups) ≡ Err f → read ≡ Err f
+not_more groups (Ok x) f e = absurd cc
+not_more groups (Err g) f e = let same : g ≡ f = cc in ap Err same
+
+pub compact_at-fails : (e : ReadErr) (groups : List (List ℕ)) (at count : ℕ) (bytes : List ℕ) → Fails e (group_more_at groups at count bytes) → Fails e (compact_at at count bytes)
+compact_at-fails errors.NoMemory groups at count bytes h = tt
+compact_at-fails (errors.Form f) groups at count bytes h = not_more groups (compact_at at count bytes) f h

@@ -1,6 +1,7 @@
 pub mod FieldLemmas
 pub mod CompactLemmas
 pub mod CompactLaws
+pub mod HeadLemmas
 pub mod GroupLemmas
 pub mod GroupLaws
 pub mod DictLemmas

@@ -1,33 +1,35 @@
-ghost use Rattle.std.specs.Prelude.{◌≡◌, ◌+◌, ◌*◌, ◌^◌, ◌<◌, ◌≤◌, ◌++◌, max, length, take, drop, IfOk, OnOk};
-ghost use Rattle.std.specs.List.{slice_get};
-ghost use Rattle.elias_fano.specs.Reading.{Gives};
+ghost use Rattle.std.specs.Prelude.{◌≡◌, ◌+◌, ◌*◌, ◌^◌, ◌<◌, ◌≤◌, ◌++◌, ◌↔◌, max, length, take, drop, IfOk, OnOk, IsTrue};
+ghost use Rattle.std.specs.Int.{w64, from_le_bytes};
+ghost use Rattle.std.specs.List.{slice_get, flat_map};
+ghost use Rattle.elias_fano.specs.Spelling.{number};
+ghost use Rattle.elias_fano.specs.Reading.{Gives, words_in};
 ghost use Rattle.pilot_codecs.specs.Spelling.{digits_of, greatest, compact_text};
-ghost use Rattle.bit_vector.specs.Bits.{bits_of, words_number};
-ghost use Rattle.pilot_codecs.specs.Reading.{fields, packed_at, compact_at};
+ghost use Rattle.bit_vector.specs.Bits.{words_for, IsPacked};
+ghost use Rattle.pilot_codecs.specs.Reading.{packed_at, compact_at};
+ghost use Rattle.pilot_codecs.specs.Parts.{values_in, IsCompact};
 
-use bit_vector::{BitVec, NoMemory, bits_at};
-use elias_fano::{FormFault, PADDING, ReadErr, SHORT, WIDTH, put_numbers, read_number, read_words};
+use bit_vector::{NoMemory, append_fields, bits_at};
+use elias_fano::{FormFault, PADDING, ReadErr, SHORT, WIDTH, put_numbers, read_number};
 use std::alloc::Global;
 use std::marker::Model;
 
-/// Numbers in the width of the greatest.
+/// Numbers in the width of the greatest, packed into words.
 #[derive(Drop)]
 pub struct Compact {
     count: u64,
     width: u32,
-    bits: BitVec,
+    words: Vec<u64>,
 }
 
 impl Model for Compact {
     ghost use Rattle.std.specs.Prelude.{ℕ, List};
-    ghost use Rattle.pilot_codecs.specs.Reading.{fields};
-    ghost use Rattle.pilot_codecs.specs.Parts.{IsCompact};
+    ghost use Rattle.pilot_codecs.specs.Parts.{values_in, IsCompact};
 
     ghost Value = { List ℕ };
 
-    ghost view = { λ c. fields c.count c.width c.bits };
+    ghost view = { λ c. values_in c.count c.width c.words.items };
 
-    ghost invariant = { λ c. IsCompact c.count c.width c.bits };
+    ghost invariant = { λ c. IsCompact c.count c.width c.words.items };
 }
 
 /// How many binary digits a number has, at least 1.
@@ -61,7 +63,7 @@ fn greatest_in(words: &[u64], count: u64, width: u32) -> u64
     requires few { count ≤ 2 ^ 30 }
     requires wide { width ≤ 64 }
     requires room { count * width ≤ 64 * length words.now }
-    ensures { result ≡ greatest (fields count width (bits_of (count * width) (words_number words.now))) }
+    ensures { result ≡ greatest (values_in count width words.now) }
 {
     let mut most = 0;
     for i in 0..count {
@@ -70,17 +72,147 @@ fn greatest_in(words: &[u64], count: u64, width: u32) -> u64
     most
 }
 
+// Whether no bit of the last word is set behind so many bits.
+fn are_clear(words: &[u64], len: u64) -> bool
+    requires { length words.now ≡ words_for len }
+    ensures { IsTrue result ↔ IsPacked words.now len }
+{
+    let used = (len % 64) as u32;
+    if used == 0 {
+        return true;
+    }
+    words[(len / 64) as usize] >> used == 0
+}
+
+/// Appends the words of values, from a new one on, and gives the width; on want of memory a part of them.
+pub fn append_values(words: &mut Vec<u64>, values: &[u64]) -> Result<u32, NoMemory>
+    requires { length values.now ≤ 2 ^ 30 }
+    ensures compact { IfOk result (λ w. IsCompact (length values.now) w
+        (drop (length words.old.items) words.new.items)) }
+    ensures values { IfOk result (λ w. values_in (length values.now) w
+        (drop (length words.old.items) words.new.items) ≡ values.now) }
+    ensures kept { take (length words.old.items) words.new.items ≡ words.old.items }
+{
+    let width = digits(greatest_of(values));
+    let len = values.len() as u64 * u64::from(width);
+    words.reserve(len.div_ceil(64) as usize)?;
+    append_fields(words, values, width)?;
+    Ok(width)
+}
+
+/// Appends the spelling of values that are kept so; on want of memory a part of it.
+pub fn put_values(out: &mut Vec<u8>, width: u32, words: &[u64]) -> Result<(), NoMemory>
+    ensures ok { OnOk result (out.new.items
+        ≡ out.old.items ++ (number width ++ flat_map number words.now)) }
+    ensures kept { take (length out.old.items) out.new.items ≡ out.old.items }
+{
+    put_numbers(out, &[u64::from(width)])?;
+    put_numbers(out, words)?;
+    Ok(())
+}
+
+/// Appends the words of the values that bytes begin with, from a new one on, and gives their width
+/// and the bytes after them; after an error it may have appended some words.
+pub fn read_values<'a>(
+    words: &mut Vec<u64>,
+    at: u64,
+    count: u64,
+    bytes: &'a [u8],
+) -> Result<(u32, &'a [u8]), ReadErr>
+    requires few { count ≤ 2 ^ 30 }
+    requires place { at ≤ 2 ^ 63 + 2 ^ 50 }
+    ensures values { Gives (λ x. (
+      values_in count x.0 (drop (length words.old.items) words.new.items),
+      x.1.now,
+    )) result (compact_at at count bytes.now) }
+    ensures compact { IfOk result (λ x. IsCompact count x.0
+        (drop (length words.old.items) words.new.items)) }
+    ensures kept { take (length words.old.items) words.new.items ≡ words.old.items }
+{
+    let (width, rest) = read_number(at, bytes)?;
+    if width == 0 || width > 64 {
+        return Err(ReadErr::Form(FormFault { at, kind: WIDTH }));
+    }
+    let after = read_packed(words, at, count, width as u32, rest)?;
+    Ok((width as u32, after))
+}
+
+// The same behind the width.
+fn read_packed<'a>(
+    words: &mut Vec<u64>,
+    at: u64,
+    count: u64,
+    width: u32,
+    bytes: &'a [u8],
+) -> Result<&'a [u8], ReadErr>
+    requires few { count ≤ 2 ^ 30 }
+    requires wide { width ≤ 64 }
+    requires place { at ≤ 2 ^ 63 + 2 ^ 50 }
+    ensures values { Gives (λ x. (
+      values_in count width (drop (length words.old.items) words.new.items),
+      x.now,
+    )) result (packed_at at count width bytes.now) }
+    ensures compact { OnOk result (IsCompact count width
+        (drop (length words.old.items) words.new.items)) }
+    ensures kept { take (length words.old.items) words.new.items ≡ words.old.items }
+{
+    let len = count * u64::from(width);
+    let size = len.div_ceil(64);
+    if (bytes.len() as u64) < 8 * size {
+        return Err(ReadErr::Form(FormFault {
+            at: at + 8,
+            kind: SHORT,
+        }));
+    }
+    let start = words.len();
+    append_words(words, bytes, size as usize)?;
+    let read = &words[start..];
+    if digits(greatest_in(read, count, width)) != width {
+        return Err(ReadErr::Form(FormFault { at, kind: WIDTH }));
+    }
+    if !are_clear(read, len) {
+        return Err(ReadErr::Form(FormFault {
+            at: at + 8 + 8 * size - 8,
+            kind: PADDING,
+        }));
+    }
+    Ok(&bytes[8 * size as usize..])
+}
+
+// The number that begins at a place.
+fn number_in(bytes: &[u8], at: usize) -> u64
+    requires { at + 8 ≤ length bytes.now }
+    ensures { result ≡ from_le_bytes w64 (take 8 (drop at bytes.now)) }
+{
+    let b = &bytes[at..at + 8];
+    u64::from_le_bytes([b[0], b[1], b[2], b[3], b[4], b[5], b[6], b[7]])
+}
+
+// Appends as many numbers as are asked for; on want of memory a part of them.
+fn append_words(words: &mut Vec<u64>, bytes: &[u8], count: usize) -> Result<(), NoMemory>
+    requires { 8 * count ≤ length bytes.now }
+    ensures ok { OnOk result (words.new.items ≡ words.old.items ++ words_in count bytes.now) }
+    ensures kept { take (length words.old.items) words.new.items ≡ words.old.items }
+{
+    words.reserve(count)?;
+    for i in 0..count {
+        words.push(number_in(bytes, 8 * i))?;
+    }
+    Ok(())
+}
+
 impl Compact {
     /// The list of these values.
     pub fn encode(alloc: Global, values: &[u64]) -> Result<Compact, NoMemory>
         requires { length values.now ≤ 2 ^ 30 }
         ensures { IfOk result (λ c. c ≡ values.now) }
     {
-        let width = digits(greatest_of(values));
+        let mut words = Vec::new(alloc);
+        let width = append_values(&mut words, values)?;
         Ok(Compact {
             count: values.len() as u64,
             width,
-            bits: BitVec::from_fields(alloc, values, width)?,
+            words,
         })
     }
 
@@ -98,7 +230,8 @@ impl Compact {
         if i >= self.count {
             return None;
         }
-        Some(self.bits.get_bits(i * u64::from(self.width), self.width))
+        let place = i * u64::from(self.width);
+        Some(bits_at(&self.words, place as usize, self.width))
     }
 
     /// Appends the spelling; on want of memory a part of it.
@@ -106,9 +239,7 @@ impl Compact {
         ensures ok { OnOk result (out.new.items ≡ out.old.items ++ compact_text self.now) }
         ensures kept { take (length out.old.items) out.new.items ≡ out.old.items }
     {
-        put_numbers(out, &[u64::from(self.width)])?;
-        put_numbers(out, self.bits.words())?;
-        Ok(())
+        put_values(out, self.width, &self.words)
     }
 
     /// The list of a count that bytes begin with, and the bytes after it.
@@ -122,44 +253,15 @@ impl Compact {
         requires place { at ≤ 2 ^ 63 + 2 ^ 50 }
         ensures { Gives (λ x. (x.0, x.1.now)) result (compact_at at count bytes.now) }
     {
-        let (width, rest) = read_number(at, bytes)?;
-        if width == 0 || width > 64 {
-            return Err(ReadErr::Form(FormFault { at, kind: WIDTH }));
-        }
-        packed_of(alloc, at, count, width as u32, rest)
-    }
-}
-
-// The list of a count and a width that bytes begin with, where their number of bytes was read.
-fn packed_of(
-    alloc: Global,
-    at: u64,
-    count: u64,
-    width: u32,
-    bytes: &[u8],
-) -> Result<(Compact, &[u8]), ReadErr>
-    requires few { count ≤ 2 ^ 30 }
-    requires wide { width ≤ 64 }
-    requires place { at ≤ 2 ^ 63 + 2 ^ 50 }
-    ensures { Gives (λ x. (x.0, x.1.now)) result (packed_at at count width bytes.now) }
-{
-    let len = count * u64::from(width);
-    let size = len.div_ceil(64);
-    if (bytes.len() as u64) < 8 * size {
-        return Err(ReadErr::Form(FormFault {
-            at: at + 8,
-            kind: SHORT,
-        }));
-    }
-    let words = read_words(alloc, bytes, size as usize)?;
-    if digits(greatest_in(&words, count, width)) != width {
-        return Err(ReadErr::Form(FormFault { at, kind: WIDTH }));
-    }
-    match BitVec::from_words(words, len) {
-        None => Err(ReadErr::Form(FormFault {
-            at: at + 8 + 8 * size - 8,
-            kind: PADDING,
-        })),
-        Some(bits) => Ok((Compact { count, width, bits }, &bytes[8 * size as usize..])),
+        let mut words = Vec::new(alloc);
+        let (width, rest) = read_values(&mut words, at, count, bytes)?;
+        Ok((
+            Compact {
+                count,
+                width,
+                words,
+            },
+            rest,
+        ))
     }
 }

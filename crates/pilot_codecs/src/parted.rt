@@ -5,8 +5,7 @@ ghost use Rattle.pilot_codecs.specs.Spelling.{parted_text, groups_for};
 ghost use Rattle.pilot_codecs.specs.Reading.{parted_at};
 
 use crate::GROUP;
-use crate::compact::Compact;
-use crate::groups::{put_groups, read_groups};
+use crate::groups::{Groups, read_groups};
 use bit_vector::NoMemory;
 use elias_fano::ReadErr;
 use std::alloc::Global;
@@ -16,7 +15,7 @@ use std::marker::Model;
 #[derive(Drop)]
 pub struct Parted {
     count: u64,
-    groups: Vec<Compact>,
+    groups: Groups,
 }
 
 impl Model for Parted {
@@ -26,9 +25,9 @@ impl Model for Parted {
 
     ghost Value = { List ℕ };
 
-    ghost view = { λ p. flat_map (λ g. g) p.groups.items };
+    ghost view = { λ p. flat_map (λ g. g) p.groups };
 
-    ghost invariant = { λ p. IsParted p.count p.groups.items };
+    ghost invariant = { λ p. IsParted p.count p.groups };
 }
 
 impl Parted {
@@ -37,13 +36,14 @@ impl Parted {
         requires { length values.now ≤ 2 ^ 30 }
         ensures { IfOk result (λ p. p ≡ values.now) }
     {
-        let mut groups = Vec::new(alloc);
+        let mut groups = Groups::new(alloc);
         let mut rest = values;
         while !rest.is_empty() {
             let (group, after) = rest.split_at(rest.len().min(GROUP as usize));
-            groups.push(Compact::encode(alloc, group)?)?;
+            groups.push(group)?;
             rest = after;
         }
+        groups.shrink();
         Ok(Parted {
             count: values.len() as u64,
             groups,
@@ -64,8 +64,7 @@ impl Parted {
         if i >= self.count {
             return None;
         }
-        let group = &self.groups[(i / GROUP) as usize];
-        group.get(i % GROUP)
+        Some(self.groups.get((i / GROUP) as usize, i % GROUP))
     }
 
     /// Appends the spelling; on want of memory a part of it.
@@ -73,7 +72,7 @@ impl Parted {
         ensures ok { OnOk result (out.new.items ≡ out.old.items ++ parted_text self.now) }
         ensures kept { take (length out.old.items) out.new.items ≡ out.old.items }
     {
-        put_groups(out, &self.groups)
+        self.groups.put(out)
     }
 
     /// The list of a count that bytes begin with, and the bytes after it.

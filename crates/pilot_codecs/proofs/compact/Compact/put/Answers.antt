@@ -1,16 +1,13 @@
-use Rattle.std.proofs.Common.{◌≡◌, ℕ, ◌++◌, List, sym, ap, ◌∙◌, append_assoc}
+use Rattle.std.proofs.Common.{◌≡◌, ℕ, ◌++◌, List, sym, ap, ◌∙◌}
 use Rattle.std.specs.List.{flat_map}
-use Rattle.elias_fano.specs.Spelling.{number, run}
+use Rattle.elias_fano.specs.Spelling.{number}
+use Rattle.elias_fano.proofs.BuildLemmas.{on_ok-map}
 use Rattle.pilot_codecs.specs.Spelling.{compact_text}
-use Rattle.pilot_codecs.proofs.CompactLemmas.{compact_text-fields}
+use Rattle.pilot_codecs.proofs.CompactLemmas.{compact_text-values_in}
 use Rattle.pilot_codecs.proofs.compact.Compact.put.Goals as goal
 
 pub returns-clause-ok : goal.returns-clause-ok
-unfolding run
 returns-clause-ok c =
     let e = c.self.inside in
-    let width : number c.from.result ≡ number e.width = ap (λ (x : ℕ). number x) c.from.ensures in
-    let words = c.in_ok-put_numbers-2.ensures.ok ∙ ap (λ (ws : List ℕ). c.put_numbers.new.out.items ++ flat_map number ws) c.words.ensures in
-    let first : c.put_numbers.new.out.items ≡ c.args.out.now.items ++ number e.width = c.in_ok-put_numbers.ensures.ok ∙ ap (λ (t : List ℕ). c.args.out.now.items ++ t) width in
-    words ∙ ap (λ (xs : List ℕ). xs ++ run e.bits) first ∙ append_assoc c.args.out.now.items (number e.width) (run e.bits)
-    ∙ ap (λ (t : List ℕ). c.args.out.now.items ++ t) (sym (compact_text-fields e.count e.width e.bits c.self.invariant)) ∙ ap (λ (vs : List ℕ). c.args.out.now.items ++ compact_text vs) c.self.view_is
+    let text : number e.width ++ flat_map number c.deref.result.now ≡ compact_text c.args.self.now = ap (λ (ws : List ℕ). number e.width ++ flat_map number ws) c.deref.ensures.value ∙ sym (compact_text-values_in e.count e.width e.words.items c.self.invariant) ∙ ap (λ (vs : List ℕ). compact_text vs) c.self.view_is in
+    on_ok-map c.put_values.result _ _ (λ h. h ∙ ap (λ (t : List ℕ). c.args.out.now.items ++ t) text) c.put_values.ensures.ok

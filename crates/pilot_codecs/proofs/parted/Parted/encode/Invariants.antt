@@ -4,7 +4,7 @@ use Rattle.pilot_codecs.proofs.parted.Parted.encode.Given as goal
 
 abbrev pub invariant-loop-rest : goal.invariant-loop-rest
 invariant-loop-rest l = record {
-  so_far : l.groups.items ++ groups_of (groups_for (length l.rest)) l.rest ≡ groups_of (groups_for (length l.values)) l.values;
+  so_far : l.groups ++ groups_of (groups_for (length l.rest)) l.rest ≡ groups_of (groups_for (length l.values)) l.values;
   few : length l.rest ≤ 2 ^ 30;
 }
 
