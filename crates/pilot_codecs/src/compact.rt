@@ -1,15 +1,15 @@
-ghost use Rattle.std.specs.Prelude.{◌≡◌, ◌+◌, ◌*◌, ◌^◌, ◌<◌, ◌≤◌, ◌++◌, ◌↔◌, max, length, take, drop, IfOk, OnOk, IsTrue};
-ghost use Rattle.std.specs.Int.{w64, from_le_bytes};
+ghost use Rattle.std.specs.Prelude.{◌≡◌, ◌+◌, ◌*◌, ◌^◌, ◌<◌, ◌≤◌, ◌++◌, max, length, take, drop, IfOk, OnOk};
 ghost use Rattle.std.specs.List.{slice_get, flat_map};
 ghost use Rattle.elias_fano.specs.Spelling.{number};
-ghost use Rattle.elias_fano.specs.Reading.{Gives, words_in};
+ghost use Rattle.elias_fano.specs.Reading.{Gives};
 ghost use Rattle.pilot_codecs.specs.Spelling.{digits_of, greatest, compact_text};
-ghost use Rattle.bit_vector.specs.Bits.{words_for, IsPacked};
 ghost use Rattle.pilot_codecs.specs.Reading.{packed_at, compact_at};
 ghost use Rattle.pilot_codecs.specs.Parts.{values_in, IsCompact};
 
-use bit_vector::{NoMemory, append_fields, bits_at};
-use elias_fano::{FormFault, PADDING, ReadErr, SHORT, WIDTH, put_numbers, read_number};
+use bit_vector::{NoMemory, append_fields, bits_at, is_packed};
+use elias_fano::{
+    FormFault, PADDING, ReadErr, SHORT, WIDTH, append_words, put_numbers, read_number,
+};
 use std::alloc::Global;
 use std::marker::Model;
 
@@ -70,18 +70,6 @@ fn greatest_in(words: &[u64], count: u64, width: u32) -> u64
         most = larger(most, bits_at(words, (i * u64::from(width)) as usize, width));
     }
     most
-}
-
-// Whether no bit of the last word is set behind so many bits.
-fn are_clear(words: &[u64], len: u64) -> bool
-    requires { length words.now ≡ words_for len }
-    ensures { IsTrue result ↔ IsPacked words.now len }
-{
-    let used = (len % 64) as u32;
-    if used == 0 {
-        return true;
-    }
-    words[(len / 64) as usize] >> used == 0
 }
 
 /// Appends the words of values, from a new one on, and gives the width; on want of memory a part of them.
@@ -170,35 +158,13 @@ fn read_packed<'a>(
     if digits(greatest_in(read, count, width)) != width {
         return Err(ReadErr::Form(FormFault { at, kind: WIDTH }));
     }
-    if !are_clear(read, len) {
+    if !is_packed(read, len) {
         return Err(ReadErr::Form(FormFault {
             at: at + 8 + 8 * size - 8,
             kind: PADDING,
         }));
     }
     Ok(&bytes[8 * size as usize..])
-}
-
-// The number that begins at a place.
-fn number_in(bytes: &[u8], at: usize) -> u64
-    requires { at + 8 ≤ length bytes.now }
-    ensures { result ≡ from_le_bytes w64 (take 8 (drop at bytes.now)) }
-{
-    let b = &bytes[at..at + 8];
-    u64::from_le_bytes([b[0], b[1], b[2], b[3], b[4], b[5], b[6], b[7]])
-}
-
-// Appends as many numbers as are asked for; on want of memory a part of them.
-fn append_words(words: &mut Vec<u64>, bytes: &[u8], count: usize) -> Result<(), NoMemory>
-    requires { 8 * count ≤ length bytes.now }
-    ensures ok { OnOk result (words.new.items ≡ words.old.items ++ words_in count bytes.now) }
-    ensures kept { take (length words.old.items) words.new.items ≡ words.old.items }
-{
-    words.reserve(count)?;
-    for i in 0..count {
-        words.push(number_in(bytes, 8 * i))?;
-    }
-    Ok(())
 }
 
 impl Compact {

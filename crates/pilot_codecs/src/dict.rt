@@ -9,7 +9,7 @@ use crate::compact::Compact;
 use crate::distinct::{distinct_of, indexes_of};
 use crate::entries::{are_all_below, are_all_used, rise};
 use bit_vector::NoMemory;
-use elias_fano::{COUNT, FormFault, ORDER, ReadErr, SHORT, put_numbers, read_number, read_words};
+use elias_fano::{COUNT, FormFault, ORDER, ReadErr, SHORT, append_words, put_numbers, read_number};
 use std::alloc::Global;
 use std::marker::Model;
 
@@ -117,7 +117,8 @@ fn entries_of(
             kind: SHORT,
         }));
     }
-    let entries = read_words(alloc, bytes, size as usize)?;
+    let mut entries = Vec::new(alloc);
+    append_words(&mut entries, bytes, size as usize)?;
     let risen = rise(&entries) as u64;
     if risen < size {
         return Err(ReadErr::Form(FormFault {

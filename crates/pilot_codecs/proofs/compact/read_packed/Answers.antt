@@ -42,23 +42,8 @@ returns-then-digits-width-clause-values c =
     let d : c.digits.result ≡ digits_of (greatest (values_in count w read)) = c.digits.ensures.value ∙ ap (λ (x : ℕ). digits_of x) c.greatest_in.ensures in
     packed_at-width c.args.at count w size bytes read (omega (arith, c.div_ceil-size.ensures, wide)) c.if-bytes-size.false read_is (λ e. c.if-digits-width.true (d ∙ e))
 
-pub are_clear-requires : goal.are_clear-requires
-are_clear-requires c =
-    let count = c.args.count in
-    let w = c.args.width in
-    let bytes = c.args.bytes.now in
-    let old = c.args.words.now.items in
-    let size = c.div_ceil-size.result in
-    let wide : count * c.from.result ≡ count * w = ap (λ (x : ℕ). count * x) c.from.ensures in
-    let start : c.len-start.result ≡ length old = omega (arith, c.len-start.ensures, c.args.words.now.ok.0) in
-    let whole : c.deref.result.now ≡ old ++ words_in size bytes = c.deref.ensures.value ∙ c.in_ok-append_words.ensures.ok in
-    let read = take (length c.deref.result.now - c.len-start.result) (drop c.len-start.result c.deref.result.now) in
-    let read_is : read ≡ words_in size bytes = behind old (words_in size bytes) c.deref.result.now c.len-start.result whole start in
-    let len : length read ≡ size = ap length read_is ∙ length-words_in size bytes in
-    omega (arith, len, c.div_ceil-size.ensures)
-
-pub returns-then-not-are_clear-clause-values : goal.returns-then-not-are_clear-clause-values
-returns-then-not-are_clear-clause-values c =
+pub returns-then-not-is_packed-clause-values : goal.returns-then-not-is_packed-clause-values
+returns-then-not-is_packed-clause-values c =
     let count = c.args.count in
     let w = c.args.width in
     let bytes = c.args.bytes.now in
@@ -71,7 +56,7 @@ returns-then-not-are_clear-clause-values c =
     let read_is : read ≡ words_in size bytes = behind old (words_in size bytes) c.deref.result.now c.len-start.result whole start in
     let d : c.digits.result ≡ digits_of (greatest (values_in count w read)) = c.digits.ensures.value ∙ ap (λ (x : ℕ). digits_of x) c.greatest_in.ensures in
     packed_at-padding c.args.at count w size bytes read (omega (arith, c.div_ceil-size.ensures, wide)) c.if-bytes-size.false read_is (λ i. omega (arith, c.type_inv.bytes i)) (sym d ∙ c.if-digits-width.false)
-    (λ p. false≢true (c.if-not-are_clear.ensures.1 (subst (λ (k : ℕ). IsPacked read k) (sym wide) p)))
+    (λ p. false≢true (c.if-not-is_packed.ensures.1 (subst (λ (k : ℕ). IsPacked read k) (sym wide) p)))
 
 pub returns-clause-values : goal.returns-clause-values
 returns-clause-values c =
@@ -91,7 +76,7 @@ returns-clause-values c =
     let same : read ≡ ws = read_is ∙ sym ws_is in
     packed_at-ok c.args.at count w size bytes ws (bits_of (count * w) (words_number ws)) (omega (arith, c.div_ceil-size.ensures, wide)) c.if-bytes-size.false ws_is
     (ap (λ (xs : List ℕ). digits_of (greatest (values_in count w xs))) (sym same) ∙ sym d ∙ c.if-digits-width.false)
-    (subst (λ (xs : List ℕ). IsPacked xs (count * w)) same (subst (λ (k : ℕ). IsPacked read k) wide (c.if-not-are_clear.ensures.0 refl))) refl
+    (subst (λ (xs : List ℕ). IsPacked xs (count * w)) same (subst (λ (k : ℕ). IsPacked read k) wide (c.if-not-is_packed.ensures.0 refl))) refl
 
 pub returns-clause-compact : goal.returns-clause-compact
 returns-clause-compact c =
@@ -109,5 +94,5 @@ returns-clause-compact c =
     let ws = drop (length old) c.append_words.new.words.items in
     let ws_is : ws ≡ words_in size bytes = appended old (words_in size bytes) c.append_words.new.words.items c.in_ok-append_words.ensures.ok in
     let same : read ≡ ws = read_is ∙ sym ws_is in
-    let made : IsCompact count w read = record { few = c.requires.few; wide = sym c.if-digits-width.false ∙ d; packed_are = subst (λ (k : ℕ). IsPacked read k) wide (c.if-not-are_clear.ensures.0 refl) } in
+    let made : IsCompact count w read = record { few = c.requires.few; wide = sym c.if-digits-width.false ∙ d; packed_are = subst (λ (k : ℕ). IsPacked read k) wide (c.if-not-is_packed.ensures.0 refl) } in
     subst (λ (xs : List ℕ). IsCompact count w xs) same made

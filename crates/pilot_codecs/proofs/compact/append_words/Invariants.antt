@@ -1,6 +1,0 @@
-use Rattle.std.proofs.Common.{◌≡◌, ◌++◌}
-use Rattle.elias_fano.specs.Reading.{words_in}
-use Rattle.pilot_codecs.proofs.compact.append_words.Given as goal
-
-abbrev pub invariant-loop-i : goal.invariant-loop-i
-invariant-loop-i l = l.words.items ≡ l.fn.words.items ++ words_in l.i l.bytes
