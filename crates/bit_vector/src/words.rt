@@ -1,6 +1,7 @@
 ghost use Rattle.std.specs.Prelude.{◌≡◌, ℕ, ◌+◌, ◌*◌, ◌-◌, ◌/◌, ◌%◌, ◌^◌, ◌<◌, ◌≤◌, ◌++◌, ◌↔◌, length, take, replicate, slice_index, IfOk, IsTrue, OnOk, OnErr};
 ghost use Rattle.bit_vector.specs.Bits.{words_number, bits_of_each, packed, IsPacked};
 
+use crate::bits::NoMemory;
 use std::alloc::{AllocError, AllocFailed, Global};
 
 /// The lowest bits of a word.
@@ -87,11 +88,7 @@ pub fn append(
 }
 
 /// Appends the lowest bits of each value, packed from a new word on; on want of memory a part of them.
-pub fn append_fields(
-    words: &mut Vec<u64>,
-    values: &[u64],
-    width: u32,
-) -> Result<(), AllocFailed<u64>>
+pub fn append_fields(words: &mut Vec<u64>, values: &[u64], width: u32) -> Result<(), NoMemory>
     requires { width ≤ 64 }
     ensures ok { OnOk result
         (words.new.items ≡ words.old.items ++ packed (bits_of_each width values.now)) }
