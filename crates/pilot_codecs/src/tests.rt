@@ -472,14 +472,21 @@ fn what_is_read(rt: HostRuntime) -> Result<(), Fail> {
 
 #[test]
 fn every_encoding(rt: HostRuntime) -> Result<(), Fail> {
-    // How many values, and a large one at every so many of them.
-    for (count, step) in [(255, 300), (256, 100), (257, 256), (1000, 700)] {
+    // How many values, a large one at every so many of them, and the others, if all are the same.
+    for (count, step, same) in [
+        (255, 300, None),
+        (256, 100, None),
+        (257, 256, None),
+        (1000, 700, None),
+        (300, 301, Some(0)),
+        (300, 301, Some(7)),
+    ] {
         let mut values = Vec::new(rt.alloc());
         for i in 0..count {
             values.push(if i % step == step - 1 {
                 (1 << 32) - 2
             } else {
-                i % 5
+                same.unwrap_or(i % 5)
             })?;
         }
         for front in CODES {
