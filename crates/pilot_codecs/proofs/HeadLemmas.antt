@@ -7,6 +7,7 @@ use Rattle.std.proofs.lemmas.List.Elements.{All-head, All-tail, All-push}
 use Rattle.bit_vector.specs.Bits.{words_for}
 use Rattle.pilot_codecs.specs.declared.groups.Head.{Head}
 use Rattle.elias_fano.specs.Spelling.{number}
+use Rattle.elias_fano.specs.Reading.{words_in}
 use Rattle.pilot_codecs.specs.Spelling.{compact_text}
 use Rattle.pilot_codecs.specs.Parts.{values_in, words_under, group_in, IsCompact, IsGroup, AreGroups}
 use Rattle.pilot_codecs.proofs.CompactLemmas.{length-values_in, compact_text-values_in}
@@ -17,6 +18,21 @@ appended old more new e = ap (λ (xs : List ℕ). drop (length old) xs) e ∙ dr
 
 pub behind : (old more new : List ℕ) (start : ℕ) → new ≡ old ++ more → start ≡ length old → take (length new - start) (drop start new) ≡ more
 behind old more new start e s = take_rest new start ∙ ap (λ (k : ℕ). drop k new) s ∙ appended old more new e
+
+-- the words that bytes begin with were put behind the old ones, and are looked at
+pub record IsRead (count w size : ℕ) (bytes old new read : List ℕ) : Type 0 where
+  pub size_is : size ≡ words_for (count * w)
+  pub read_is : read ≡ words_in size bytes
+  pub new_is : drop (length old) new ≡ words_in size bytes
+
+pub words_read : (count w width size start : ℕ) (bytes old new seen : List ℕ) → width ≡ w → size ≡ words_for (count * width) → start ≡ length old → seen ≡ new → new ≡ old ++ words_in size bytes
+    → IsRead count w size bytes old new (take (length seen - start) (drop start seen))
+words_read count w width size start bytes old new seen same s at all e =
+    record {
+      size_is = s ∙ ap (λ (x : ℕ). words_for (count * x)) same;
+      read_is = behind old (words_in size bytes) seen start (all ∙ e) at;
+      new_is = appended old (words_in size bytes) new e;
+    }
 
 longer : (old new : List ℕ) → take (length old) new ≡ old → length old ≤ length new
 longer old new kept = omega (arith, ap length kept, length-take (length old) new)
