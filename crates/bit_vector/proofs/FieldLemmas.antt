@@ -10,33 +10,40 @@ use Rattle.bit_vector.proofs.WordLemmas.{AreWords, words_number-push, words_from
 use Rattle.bit_vector.proofs.PackLemmas.{AreWords-push, joined, sum_lt}
 use Rattle.bit_vector.proofs.SampleLemmas.{length-packed, AreWords-packed, words_number-packed}
 
+-- what stands above the lowest bits doesn't matter to them
 pub bits_of-high : (w n v : ℕ) → n < 2 ^ w → bits_of w (v * 2 ^ w + n) ≡ bits_of w n
 unfolding bits_of
 bits_of-high w n v lt =
     let turned : v * 2 ^ w + n ≡ n + v * 2 ^ w = omega arith in
     ap (λ (m : ℕ). bits_of w m) turned ∙ bits_of-append w 0 w n v (omega arith) lt ∙ append-nil (bits_of w n)
 
+-- the lowest bits alone have the same bits
 pub bits_of-low : (w v : ℕ) → bits_of w (v % 2 ^ w) ≡ bits_of w v
 bits_of-low w v = sym (bits_of-high w (v % 2 ^ w) (v / 2 ^ w) (mod_below v (2 ^ w) (pow_pos w))) ∙ ap (λ (m : ℕ). bits_of w m) (shr_split v w)
 
+-- as many bits as values times the width
 pub length-bits_of_each : (w : ℕ) (vs : List ℕ) → length (bits_of_each w vs) ≡ length vs * w
 unfolding bits_of_each
 length-bits_of_each w [] = omega arith
 length-bits_of_each w (v ∷ vs) = omega (arith, length-append (bits_of w v) (bits_of_each w vs), length-bits_of w v, length-bits_of_each w vs)
 
+-- one value more
 bits_of_each-push : (w : ℕ) (vs : List ℕ) (v : ℕ) → bits_of_each w (vs ++ v ∷ []) ≡ bits_of_each w vs ++ bits_of w v
 unfolding bits_of_each
 bits_of_each-push w [] v = append-nil (bits_of w v)
 bits_of_each-push w (x ∷ vs) v = ap (λ (bs : List Bool). bits_of w x ++ bs) (bits_of_each-push w vs v) ∙ sym (append_assoc (bits_of w x) (bits_of_each w vs) (bits_of w v))
 
+-- no values have no bits
 pub no_bits : (w : ℕ) → [] ≡ bits_of_each w []
 unfolding bits_of_each
 no_bits w = refl
 
+-- one value of a list more, by its lowest bits
 pub bits_of_each-more : (w : ℕ) (vs : List ℕ) (i : ℕ) → i < length vs → bits_of_each w (take i vs) ++ bits_of w (get_or vs i 0 % 2 ^ w) ≡ bits_of_each w (take (i + 1) vs)
 bits_of_each-more w vs i lt =
     ap (λ (bs : List Bool). bits_of_each w (take i vs) ++ bs) (bits_of-low w (get_or vs i 0)) ∙ sym (bits_of_each-push w (take i vs) (get_or vs i 0)) ∙ ap (λ (xs : List ℕ). bits_of_each w xs) (sym (take_more vs i 0 lt))
 
+-- bits behind others count from their place on
 number_of-append : (xs ys : List Bool) → number_of (xs ++ ys) ≡ number_of xs + 2 ^ length xs * number_of ys
 unfolding number_of
 number_of-append [] ys = omega arith
@@ -57,6 +64,7 @@ pub record IsPacking (before words : List ℕ) (rest used : ℕ) (bits : List Bo
   pub clear : rest < 2 ^ used
   pub below : used < 64
 
+-- nothing is packed yet
 pub packing_none : (ws : List ℕ) → IsPacking ws ws 0 0 []
 unfolding words_number number_of
 packing_none ws = record { front = []; words_is = sym (append-nil ws); fit = λ i. omega arith; number = omega arith; len = refl; clear = omega arith; below = omega arith }
@@ -65,6 +73,7 @@ packing_none ws = record { front = []; words_is = sym (append-nil ws); fit = λ 
 more_number : (bits : List Bool) (w v : ℕ) → v < 2 ^ w → number_of (bits ++ bits_of w v) ≡ number_of bits + 2 ^ length bits * v
 more_number bits w v lt = number_of-append bits (bits_of w v) ∙ ap (λ (q : ℕ). number_of bits + 2 ^ length bits * q) (number_of-bits_of w v ∙ mod-eq_of_lt lt)
 
+-- and how many bits they are
 more_len : (bits : List Bool) (w v : ℕ) → length (bits ++ bits_of w v) ≡ length bits + w
 more_len bits w v = omega (arith, length-append bits (bits_of w v), length-bits_of w v)
 
@@ -72,6 +81,7 @@ more_len bits w v = omega (arith, length-append bits (bits_of w v), length-bits_
 place : (front bits : List Bool) (k used : ℕ) → 64 * k + used ≡ length bits → 2 ^ (64 * k) * 2 ^ used ≡ 2 ^ length bits
 place front bits k used e = sym (pow-add 2 (64 * k) used) ∙ ap (λ (j : ℕ). 2 ^ j) e
 
+-- a value that the rest has room for
 pub packing_within : (before ws : List ℕ) (rest used w v : ℕ) (bits new : List Bool) → IsPacking before ws rest used bits → v < 2 ^ w → used + w < 64 → bits ++ bits_of w v ≡ new
     → IsPacking before ws (bit_or rest (v * 2 ^ used % 2 ^ 64)) (used + w) new
 packing_within before ws rest used w v bits new p fits lt e =
@@ -92,6 +102,7 @@ packing_within before ws rest used w v bits new p fits lt e =
       below = lt;
     })
 
+-- a value that fills the rest, so that a word is put behind the others
 pub packing_across : (before ws more : List ℕ) (rest used w v left used2 : ℕ) (bits new : List Bool) → IsPacking before ws rest used bits → v < 2 ^ w → v < 2 ^ 64 → 64 ≤ used + w → w ≤ 64 → bits ++ bits_of w v ≡ new
     → more ≡ ws ++ bit_or rest (v * 2 ^ used % 2 ^ 64) ∷ [] → used2 ≡ used + w - 64 → left ≡ v / 2 ^ (w - used2) → IsPacking before more left used2 new
 packing_across before ws more rest used w v left used2 bits new p fits small ge wide e m u l =
@@ -131,12 +142,14 @@ filled : (before front ws : List ℕ) (bits : List Bool) → ws ≡ before ++ fr
 filled before front ws bits e fit number count =
     e ∙ ap (λ (xs : List ℕ). before ++ xs) (sym (words_from-words_number front fit) ∙ ap (λ (j : ℕ). words_from j (words_number front)) count ∙ ap (λ (m : ℕ). words_from (words_for (length bits)) m) number)
 
+-- the bits end with a word
 pub packed_whole_words : (before ws : List ℕ) (rest : ℕ) (bits : List Bool) → IsPacking before ws rest 0 bits → ws ≡ before ++ packed bits
 packed_whole_words before ws rest bits p =
     let none : rest ≡ 0 = omega (arith, p.clear) in
     let number : words_number p.front ≡ number_of bits = omega (arith, p.number, ap (λ (q : ℕ). 2 ^ (64 * length p.front) * q) none) in
     filled before p.front ws bits p.words_is p.fit number (omega (arith, p.len))
 
+-- the rest is the last word
 pub packed_last_word : (before ws more : List ℕ) (rest used : ℕ) (bits : List Bool) → IsPacking before ws rest used bits → 0 < used → more ≡ ws ++ rest ∷ [] → more ≡ before ++ packed bits
 packed_last_word before ws more rest used bits p pos e =
     let in_word : used ≤ 64 = omega (arith, p.below) in
@@ -145,6 +158,7 @@ packed_last_word before ws more rest used bits p pos e =
     let whole : more ≡ before ++ (p.front ++ rest ∷ []) = e ∙ ap (λ (xs : List ℕ). xs ++ rest ∷ []) p.words_is ∙ append_assoc before p.front (rest ∷ []) in
     filled before (p.front ++ rest ∷ []) more bits whole (AreWords-push p.front rest p.fit small) (omega (arith, words_number-push p.front rest, p.number)) (omega (arith, length_push p.front rest, p.len, p.below))
 
+-- what stood before still stands
 pub packing_kept : (before words : List ℕ) (rest used : ℕ) (bits : List Bool) → IsPacking before words rest used bits → take (length before) words ≡ before
 packing_kept before words rest used bits p = ap (λ (xs : List ℕ). take (length before) xs) p.words_is ∙ take_at before p.front (length before) refl
 
@@ -153,6 +167,7 @@ pub record ArePackedBits (ws : List ℕ) (bits : List Bool) : Type 0 where
   pub packed_are : IsPacked ws (length bits)
   pub seen : bits_of (length bits) (words_number ws) ≡ bits
 
+-- so the words of each list of bits are
 pub packed_bits : (bits : List Bool) → ArePackedBits (packed bits) bits
 packed_bits bits =
     let number = words_number-packed bits in
@@ -161,6 +176,7 @@ packed_bits bits =
       seen = ap (λ (m : ℕ). bits_of (length bits) m) number ∙ bits_of-number_of bits;
     }
 
+-- the words of fields are packed, and are seen as their bits
 pub fields_packed : (w len : ℕ) (vs ws : List ℕ) → ws ≡ packed (bits_of_each w vs) → len ≡ length vs * w → IsPacked ws len × (bits_of len (words_number ws) ≡ bits_of_each w vs)
 fields_packed w len vs ws e l =
     let bits = bits_of_each w vs in

@@ -14,6 +14,7 @@ use Rattle.bit_vector.proofs.WordLemmas.{AreWords, words_number-set}
 use Rattle.bit_vector.proofs.ReadLemmas.{bits_inside}
 use Rattle.bit_vector.proofs.PackLemmas.{AreWords-set}
 
+-- setting a bit adds its power where it was clear
 number_of-set : (bs : List Bool) (k : ℕ) → k < length bs → number_of (set bs k true) + cond (get_or bs k false) 1 0 * 2 ^ k ≡ number_of bs + 2 ^ k
 unfolding number_of
 number_of-set [] k lt = absurd (omega arith)
@@ -25,9 +26,11 @@ number_of-set (b ∷ bs) (suc k) lt =
     let c = ap (λ (q : ℕ). cond (get_or bs k false) 1 0 * q) p in
     omega (arith, e, p, c)
 
+-- the same of a word
 or_one : (x s : ℕ) → bit_or x (2 ^ s) + bit_at x s * 2 ^ s ≡ x + 2 ^ s
 or_one x s = omega (arith, or_add_and x (2 ^ s), and_pow x s)
 
+-- a bit as a truth value and back
 one_if : (m : ℕ) → m < 2 → cond (eqb m 1) 1 0 ≡ m
 one_if m lt =
     elim (cases_eq m 1) [
@@ -62,6 +65,7 @@ pub record IsSet (ws new : List ℕ) (len at : ℕ) : Type 0 where
   pub packed : IsPacked new len
   pub bits : bits_of len (words_number new) ≡ set (bits_of len (words_number ws)) at true
 
+-- words with one bit set are seen as the bits with this one set
 bit_set : (ws : List ℕ) (len at : ℕ) → IsPacked ws len → at < len → IsSet ws (set ws (at / 64) (bit_or (get_or ws (at / 64) 0) (2 ^ (at % 64)))) len at
 bit_set ws len at p lt =
     let k = at / 64 in
@@ -81,6 +85,7 @@ bit_set ws len at p lt =
       bits = ap (λ (m : ℕ). bits_of len m) value ∙ ap (λ (j : ℕ). bits_of j (number_of bs)) (sym n) ∙ bits_of-number_of bs;
     }
 
+-- the same of what `|=` writes
 pub bit_written : (ws : List ℕ) (len at x : ℕ) → IsPacked ws len → at < len → x ≡ get_or ws (at / 64) x → IsSet ws (set ws (at / 64) (bit_or x (1 * 2 ^ (at % 64) % 2 ^ 64))) len at
 bit_written ws len at x p lt e =
     let k = at / 64 in
@@ -89,23 +94,28 @@ bit_written ws len at x p lt e =
     let one : 1 * 2 ^ (at % 64) % 2 ^ 64 ≡ 2 ^ (at % 64) = one_shl (at % 64) 64 (omega arith) in
     subst (λ (m : ℕ). IsSet ws (set ws k (bit_or x m)) len at) (sym one) (subst (λ (m : ℕ). IsSet ws (set ws k (bit_or m (2 ^ (at % 64)))) len at) (sym x-is) (bit_set ws len at p lt))
 
+-- clear words spell 0
 words_number-zeros : (n : ℕ) → words_number (replicate n 0) ≡ 0
 unfolding words_number
 words_number-zeros zero = refl
 words_number-zeros (suc n) = omega (arith, words_number-zeros n)
 
+-- clear words are words
 AreWords-zeros : (n : ℕ) → AreWords (replicate n 0)
 AreWords-zeros zero i = omega arith
 AreWords-zeros (suc n) zero = omega arith
 AreWords-zeros (suc n) (suc i) = AreWords-zeros n i
 
+-- the bits of 0 are clear
 bits_of-zero : (w : ℕ) → bits_of w 0 ≡ replicate w false
 unfolding bits_of
 bits_of-zero zero = refl
 bits_of-zero (suc w) = ap (λ (bs : List Bool). false ∷ bs) (bits_of-zero w)
 
+-- clear words hold clear bits
 pub zeros_packed : (n len : ℕ) → n ≡ words_for len → IsPacked (replicate n 0) len
 zeros_packed n len e = record { count = length-replicate n 0 ∙ e; fit = AreWords-zeros n; clear = omega (arith, words_number-zeros n, pow_pos len) }
 
+-- clear words are seen as clear bits
 pub zeros_bits : (n len : ℕ) → bits_of len (words_number (replicate n 0)) ≡ replicate len false
 zeros_bits n len = ap (λ (m : ℕ). bits_of len m) (words_number-zeros n) ∙ bits_of-zero len

@@ -10,22 +10,27 @@ use Rattle.elias_fano.specs.Values.{values_of, AreValues}
 use Rattle.elias_fano.proofs.ValueLemmas.{last_of-nil, get_or-le-last}
 use Rattle.elias_fano.proofs.TextLemmas.{shr-mono, list-values}
 
+-- among one more
 pub is_among-push : (n : ℕ) (ps : List ℕ) (p : ℕ) → is_among n (ps ++ p ∷ []) ≡ (is_among n ps || eqb n p)
 unfolding is_among
 is_among-push n [] p = elim (cases_Bool (eqb n p)) [ inl t ↦ rw t refl | inr f ↦ rw f refl ]
 is_among-push n (q ∷ ps) p = elim (cases_Bool (eqb n q)) [ inl t ↦ rw t refl | inr f ↦ rw f (is_among-push n ps p) ]
 
+-- `||` with true
 or_yes : (b : Bool) → (b || true) ≡ true
 or_yes true = refl
 or_yes false = refl
 
+-- `||` with false
 or_no : (b : Bool) → (b || false) ≡ b
 or_no true = refl
 or_no false = refl
 
+-- the last is among them
 among_last : (n : ℕ) (ps : List ℕ) → is_among n (ps ++ n ∷ []) ≡ true
 among_last n ps = is_among-push n ps n ∙ ap (λ (b : Bool). is_among n ps || b) (eq-eqb n n refl) ∙ or_yes (is_among n ps)
 
+-- another last one makes no difference
 among_others : (n p : ℕ) (ps : List ℕ) → (n ≡ p → ⊥) → is_among n (ps ++ p ∷ []) ≡ is_among n ps
 among_others n p ps ne = is_among-push n ps p ∙ ap (λ (b : Bool). is_among n ps || b) (ne_eqb n p ne) ∙ or_no (is_among n ps)
 
@@ -46,11 +51,13 @@ marks-set at (suc n) (suc k) ps lt =
     let there : at + suc k ≡ at + 1 + k = omega arith in
     rw (there, among_others at (at + 1 + k) ps (λ e. omega (arith, e))) (ap (λ (bs : List Bool). is_among at ps ∷ bs) (marks-set (at + 1) n k ps (omega arith)))
 
+-- no bit is set yet
 no_marks : (at n : ℕ) → replicate n false ≡ marks at n []
 unfolding marks is_among
 no_marks at zero = refl
 no_marks at (suc n) = ap (λ (bs : List Bool). false ∷ bs) (no_marks (at + 1) n)
 
+-- the place of one value more
 high_places-push : (w k : ℕ) (vs : List ℕ) (v : ℕ) → high_places w k (vs ++ v ∷ []) ≡ high_places w k vs ++ (v / 2 ^ w + (k + length vs)) ∷ []
 unfolding high_places
 high_places-push w k [] v = ap (λ (p : ℕ). p ∷ []) (omega arith)
