@@ -483,11 +483,9 @@ fn every_encoding(rt: HostRuntime) -> Result<(), Fail> {
     ] {
         let mut values = Vec::new(rt.alloc());
         for i in 0..count {
-            values.push(if i % step == step - 1 {
-                (1 << 32) - 2
-            } else {
-                same.unwrap_or(i % 5)
-            })?;
+            let large = i % step == step - 1;
+            let other = same.unwrap_or(i % 5);
+            values.push(if large { (1 << 32) - 2 } else { other })?;
         }
         for front in CODES {
             check_list(&rt, rt.alloc(), &values, Encoding { front, back: None })?;
