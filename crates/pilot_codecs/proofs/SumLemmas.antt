@@ -1,5 +1,5 @@
 -- Sums and steps.
-use Rattle.std.proofs.Common.{◌≡◌, ℕ, zero, suc, ◌+◌, ◌-◌, ◌^◌, ◌<◌, ◌≤◌, true, List, [], ◌∷◌, ◌++◌, length, get_or, take, Some, Ok, refl, sym, ap, ◌∙◌, subst, arith}
+use Rattle.std.proofs.Common.{◌≡◌, ℕ, zero, suc, ◌+◌, ◌*◌, ◌-◌, ◌^◌, ◌<◌, ◌≤◌, true, List, [], ◌∷◌, ◌++◌, length, get_or, take, Some, Ok, refl, sym, ap, ◌∙◌, subst, arith}
 use Rattle.std.specs.List.{slice_get}
 use Rattle.std.proofs.lemmas.List.{take_more}
 use Rattle.elias_fano.specs.declared.fault.ReadErr.{ReadErr}
@@ -9,7 +9,7 @@ use Rattle.elias_fano.specs.Reading.{Fails, list_at}
 use Rattle.elias_fano.proofs.FormLemmas.{IsBytes}
 use Rattle.elias_fano.proofs.LawLemmas.{bind_ok, ok_is, IsTaken, list_takes, list_again}
 use Rattle.elias_fano.proofs.ValueLemmas.{rises-parts, rises-yes}
-use Rattle.pilot_codecs.specs.Spelling.{sums_from}
+use Rattle.pilot_codecs.specs.Spelling.{greatest, sums_from}
 use Rattle.pilot_codecs.specs.Reading.{steps_from, sums_at}
 
 -- the sum of a list
@@ -45,6 +45,24 @@ pub rises-sums_from : (b : ℕ) (vs : List ℕ) → rises b (sums_from b vs) ≡
 unfolding sums_from rises
 rises-sums_from b [] = refl
 rises-sums_from b (v ∷ vs) = rises-yes b (b + v) (sums_from (b + v) vs) (omega arith) ∙ rises-sums_from (b + v) vs
+
+last_of-sums_from : (b : ℕ) (vs : List ℕ) → last_of b (sums_from b vs) ≡ b + total vs
+unfolding sums_from last_of
+last_of-sums_from b [] = omega arith
+last_of-sums_from b (v ∷ vs) = omega (arith, last_of-sums_from (b + v) vs)
+
+total-most : (vs : List ℕ) → greatest vs < 2 ^ 32 → total vs ≤ length vs * 2 ^ 32
+unfolding greatest
+total-most [] small = omega arith
+total-most (v ∷ vs) small = omega (arith, small, total-most vs (omega (arith, small)))
+
+-- the sums of small values have a spelling
+pub IsRising-sums_from : (vs : List ℕ) → greatest vs < 2 ^ 32 → length vs ≤ 2 ^ 30 → IsRising (sums_from 0 vs)
+IsRising-sums_from vs small few = record {
+  rising = rises-sums_from 0 vs;
+  fits = omega (arith, last_of-sums_from 0 vs, total-most vs small, few);
+  few = omega (arith, length-sums_from 0 vs, few);
+}
 
 pub steps_from-sums_from : (b : ℕ) (vs : List ℕ) → steps_from b (sums_from b vs) ≡ vs
 unfolding sums_from steps_from

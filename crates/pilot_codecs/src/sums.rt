@@ -52,7 +52,6 @@ impl Sums {
     {
         let sums = sums_of(alloc, values)?;
         let list = EliasFano::build(alloc, &sums)?;
-        let _count = list.len();
         Ok(Sums { list })
     }
 
@@ -94,7 +93,6 @@ impl Sums {
         ensures { Gives (λ x. (x.0, x.1.now)) result (sums_at at count bytes.now) }
     {
         let (list, rest) = read_list(alloc, at, count, bytes)?;
-        let _count = list.len();
         Ok((Sums { list }, rest))
     }
 }
