@@ -4,6 +4,7 @@ use Rattle.std.proofs.lemmas.Nat.{mul-le}
 use Rattle.std.proofs.lemmas.Bool.{cases_lt, cases_eq, lt-ltb, le-ltb, eq-eqb, ne_eqb}
 use Rattle.std.proofs.lemmas.List.{take_more, take_rest}
 use Rattle.std.specs.List.{flat_map}
+use Rattle.std.specs.Ordering.{nat_cmp, ord_max}
 use Rattle.bit_vector.specs.Bits.{bits_of, words_number, words_for, packed, IsPacked, bits_of_each}
 use Rattle.bit_vector.proofs.BitLemmas.{length-bits_of}
 use Rattle.bit_vector.proofs.ViewLemmas.{bits_read, packed-bits_of}
@@ -17,6 +18,18 @@ use Rattle.pilot_codecs.specs.Spelling.{digits_of, greatest, compact_text}
 use Rattle.pilot_codecs.specs.Reading.{fields, fields_in, packed_at, compact_at}
 use Rattle.pilot_codecs.specs.Parts.{values_in, IsCompact}
 use Rattle.pilot_codecs.proofs.FieldLemmas.{lt-digits_of, greatest-push, length-fields, get_or-fields, fields-bits_of_each, bits_of_each-fields}
+
+-- what `max` of two numbers gives
+pub ord_max_is : (a b : ℕ) → ord_max nat_cmp a b ≡ max a b
+ord_max_is a b =
+    elim (cases_lt b a) [
+      | inl lt ↦ rw (lt-ltb b a lt) (omega (arith, lt))
+      | inr le ↦
+          elim (cases_eq b a) [
+            | inl same ↦ rw (le-ltb b a le, eq-eqb b a same) (omega (arith, le))
+            | inr other ↦ rw (le-ltb b a le, ne_eqb b a other) (omega (arith, le))
+          ]
+    ]
 
 pub greatest-more : (vs : List ℕ) (i : ℕ) → i < length vs → greatest (take (i + 1) vs) ≡ max (greatest (take i vs)) (get_or vs i 0)
 greatest-more vs i lt = ap greatest (take_more vs i 0 lt) ∙ greatest-push (take i vs) (get_or vs i 0)

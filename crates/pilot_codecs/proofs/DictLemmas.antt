@@ -1,7 +1,9 @@
 -- A dictionary that rises, and indexes into it.
 use Rattle.std.proofs.Common.{◌≡◌, ℕ, zero, suc, ◌+◌, ◌<◌, ◌≤◌, Bool, true, false, eqb, ltb, List, [], ◌∷◌, length, get_or, take, drop, set, Some, refl, sym, ap, ◌∙◌, inl, inr, arith}
-use Rattle.std.specs.Prelude.{◌||◌}
-use Rattle.std.proofs.lemmas.Bool.{cases_lt, cases_eq, and_parts, and_from, ltb-true, lt-ltb, le-ltb, eq-eqb, ne_eqb}
+use Rattle.std.proofs.Math.Bool.{beq}
+use Rattle.std.specs.Prelude.{not, ◌||◌}
+use Rattle.std.specs.List.{list_any}
+use Rattle.std.proofs.lemmas.Bool.{false≢true, cases_lt, cases_eq, and_parts, and_from, ltb-true, lt-ltb, le-ltb, eq-eqb, ne_eqb}
 use Rattle.std.proofs.lemmas.List.{drop_more, take_more, get_or-set_same, get_or-set_other}
 use Rattle.elias_fano.specs.Spelling.{is_among}
 use Rattle.elias_fano.proofs.BuildLemmas.{is_among-push}
@@ -11,6 +13,19 @@ pub same_bool : (b c : Bool) → (b ≡ true → c ≡ true) → (c ≡ true →
 same_bool true c f g = sym (f refl)
 same_bool false true f g = g refl
 same_bool false false f g = refl
+
+-- no mark is clear
+pub set_each : (marks : List Bool) → not (list_any (λ b. beq b false) marks) ≡ true → (k : ℕ) → k < length marks → get_or marks k false ≡ true
+set_each [] h k lt = absurd (omega (arith, lt))
+set_each (false ∷ bs) h k lt = absurd cc
+set_each (true ∷ bs) h zero lt = refl
+set_each (true ∷ bs) h (suc k) lt = set_each bs h k (omega (arith, lt))
+
+-- and back
+pub each_set : (marks : List Bool) → ((k : ℕ) → k < length marks → get_or marks k false ≡ true) → not (list_any (λ b. beq b false) marks) ≡ true
+each_set [] h = refl
+each_set (false ∷ bs) h = absurd (false≢true (h 0 (omega arith)))
+each_set (true ∷ bs) h = each_set bs (λ k lt. h (suc k) (omega (arith, lt)))
 
 pub some_is : (x y : ℕ) → Some x ≡ Some y → x ≡ y
 some_is x y e = cc

@@ -1,4 +1,4 @@
-ghost use Rattle.std.specs.Prelude.{◌≡◌, ◌+◌, ◌*◌, ◌^◌, ◌<◌, ◌≤◌, ◌++◌, max, length, take, drop, IfOk, OnOk};
+ghost use Rattle.std.specs.Prelude.{◌≡◌, ◌+◌, ◌*◌, ◌^◌, ◌<◌, ◌≤◌, ◌++◌, length, take, drop, IfOk, OnOk};
 ghost use Rattle.std.specs.List.{slice_get, flat_map};
 ghost use Rattle.elias_fano.specs.Spelling.{number};
 ghost use Rattle.elias_fano.specs.Reading.{Gives};
@@ -40,20 +40,13 @@ pub fn digits(n: u64) -> u32
     if n == 0 { 1 } else { n.ilog2() + 1 }
 }
 
-// The larger of two numbers.
-fn larger(a: u64, b: u64) -> u64
-    ensures { result ≡ max a b }
-{
-    if a < b { b } else { a }
-}
-
 // The greatest value, 0 if there is none.
 fn greatest_of(values: &[u64]) -> u64
     ensures { result ≡ greatest values.now }
 {
     let mut most = 0;
     for value in values {
-        most = larger(most, *value);
+        most = most.max(*value);
     }
     most
 }
@@ -67,7 +60,7 @@ fn greatest_in(words: &[u64], count: u64, width: u32) -> u64
 {
     let mut most = 0;
     for i in 0..count {
-        most = larger(most, bits_at(words, (i * u64::from(width)) as usize, width));
+        most = most.max(bits_at(words, (i * u64::from(width)) as usize, width));
     }
     most
 }

@@ -35,36 +35,10 @@ pub fn are_all_used(alloc: Global, places: &Compact, size: usize) -> Result<bool
     requires below { are_below size places.now ≡ true }
     ensures { IfOk result (λ b. b ≡ are_used size places.now) }
 {
-    let mut used = all_clear(alloc, size)?;
+    let mut used = vec![in alloc; false; size]?;
     for i in 0..places.len() {
         let place = places.get(i).unwrap();
         used[place as usize] = true;
     }
-    Ok(are_all_set(&used))
-}
-
-// As many marks, none set.
-fn all_clear(alloc: Global, size: usize) -> Result<Vec<bool>, NoMemory>
-    ensures len { IfOk result (λ v. length v.items ≡ size) }
-    ensures clear { IfOk result
-        (λ v. (k : ℕ) → k < size → slice_index_or v.items k false ≡ false) }
-{
-    let mut used = Vec::with_capacity(alloc, size)?;
-    for _ in 0..size {
-        used.push(false)?;
-    }
-    Ok(used)
-}
-
-// Whether each mark is set.
-fn are_all_set(used: &[bool]) -> bool
-    ensures { IsTrue result ↔
-        ((k : ℕ) → k < length used.now → slice_index_or used.now k false ≡ true) }
-{
-    for u in used {
-        if !*u {
-            return false;
-        }
-    }
-    true
+    Ok(!used.contains(&false))
 }

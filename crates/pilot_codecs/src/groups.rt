@@ -146,7 +146,7 @@ pub fn read_groups(
     let mut place = at;
     let mut rest = bytes;
     while left > 0 {
-        let size = if left < GROUP { left } else { GROUP };
+        let size = left.min(GROUP);
         let after = groups.read_more(place, size, rest)?;
         place += (rest.len() - after.len()) as u64;
         left -= size;

@@ -3,7 +3,7 @@ use Rattle.bit_vector.specs.Bits.{bits_of, words_number}
 use Rattle.pilot_codecs.specs.Spelling.{greatest}
 use Rattle.pilot_codecs.specs.Reading.{fields}
 use Rattle.pilot_codecs.proofs.FieldLemmas.{greatest-nil, length-fields}
-use Rattle.pilot_codecs.proofs.CompactLemmas.{greatest-more, field_at}
+use Rattle.pilot_codecs.proofs.CompactLemmas.{ord_max_is, greatest-more, field_at}
 use Rattle.std.proofs.lemmas.List.{take_all}
 use Rattle.pilot_codecs.proofs.compact.greatest_in.Goals as goal
 
@@ -19,7 +19,7 @@ loop-i-preserved c =
     let so_far : c.loop-i.most ≡ greatest (take i fs) = c.loop-i.invariant in
     let got : c.bits_at.result ≡ get_or fs i 0 = c.bits_at.ensures ∙ ap (λ (x : ℕ). n / 2 ^ (i * x) % 2 ^ w) c.from.ensures ∙ field_at n c.args.count w i c.loop-i-test.true in
     let lt : i < length fs = omega (arith, length-fields c.args.count w (bits_of (c.args.count * w) n), c.loop-i-test.true) in
-    c.larger-most.ensures ∙ ap (λ (x : ℕ). max x c.bits_at.result) so_far ∙ ap (λ (x : ℕ). max (greatest (take i fs)) x) got ∙ sym (greatest-more fs i lt)
+    c.max-most.ensures ∙ ord_max_is c.loop-i.most c.bits_at.result ∙ ap (λ (x : ℕ). max x c.bits_at.result) so_far ∙ ap (λ (x : ℕ). max (greatest (take i fs)) x) got ∙ sym (greatest-more fs i lt)
 
 pub returns : goal.returns
 returns c =

@@ -1,14 +1,22 @@
 use Rattle.std.proofs.Common.{◌≡◌, ℕ, ◌<◌, List, Bool, true, false, length, take, get_or, sym, ap, ◌∙◌, arith}
+use Rattle.std.proofs.Math.Bool.{beq}
+use Rattle.std.specs.Prelude.{not, replicate}
+use Rattle.std.specs.List.{list_any}
 use Rattle.elias_fano.specs.Spelling.{is_among}
 use Rattle.elias_fano.proofs.ValueLemmas.{slice_get-some, slice_get-is}
 use Rattle.pilot_codecs.specs.Reading.{are_used}
-use Rattle.pilot_codecs.proofs.DictLemmas.{same_bool, are_below-at, are_used-at, are_used-from, is_among-nil, marked_more}
-use Rattle.std.proofs.lemmas.List.{take_all, length-set}
+use Rattle.pilot_codecs.proofs.DictLemmas.{same_bool, set_each, each_set, are_below-at, are_used-at, are_used-from, is_among-nil, marked_more}
+use Rattle.std.proofs.lemmas.List.{take_all, length-set, length-replicate, get_or-replicate}
 use Rattle.pilot_codecs.proofs.DictLemmas.{some_is}
 use Rattle.pilot_codecs.proofs.entries.are_all_used.Goals as goal
 
 pub loop-i-init : goal.loop-i-init
-loop-i-init c = record { len = c.in_ok-used.ensures.len; marked = λ d lt. c.in_ok-used.ensures.clear d lt ∙ sym (is_among-nil d) }
+loop-i-init c =
+    let clear : c.in_ok-used.used.items ≡ replicate c.args.size false = c.in_ok-used.ensures.items_if_clones_equal (λ y same. same) in
+    record {
+      len = ap length clear ∙ length-replicate c.args.size false;
+      marked = λ d lt. ap (λ (bs : List Bool). get_or bs d false) clear ∙ get_or-replicate c.args.size d false false lt ∙ sym (is_among-nil d);
+    }
 
 pub unwrap-place-requires : goal.unwrap-place-requires
 unwrap-place-requires c = rw c.get.ensures (slice_get-some c.args.places.now c.loop-i.i (omega (arith, c.len-i-end.ensures, c.loop-i-test.true)))
@@ -40,6 +48,7 @@ returns c =
     let items : c.deref.result.now ≡ c.loop-i.used.items = c.deref.ensures.value in
     let marks = λ (d : ℕ) (lt : d < c.args.size). ap (λ (bs : List Bool). get_or bs d false) items ∙ c.loop-i.invariant.marked d lt ∙ ap (λ (xs : List ℕ). is_among d xs) all in
     let size : length c.deref.result.now ≡ c.args.size = ap length items ∙ c.loop-i.invariant.len in
-    same_bool c.are_all_set.result (are_used c.args.size ps)
-    (λ t. are_used-from c.args.size ps (λ d lt. sym (marks d lt) ∙ c.are_all_set.ensures.0 t d (omega (arith, size, lt))))
-    (λ t. c.are_all_set.ensures.1 (λ d lt. marks d (omega (arith, size, lt)) ∙ are_used-at c.args.size ps d t (omega (arith, size, lt))))
+    ap (λ (b : Bool). not b) c.contains.ensures.value
+    ∙ same_bool (not (list_any (λ b. beq b false) c.deref.result.now)) (are_used c.args.size ps)
+    (λ t. are_used-from c.args.size ps (λ d lt. sym (marks d lt) ∙ set_each c.deref.result.now t d (omega (arith, size, lt))))
+    (λ t. each_set c.deref.result.now (λ d lt. marks d (omega (arith, size, lt)) ∙ are_used-at c.args.size ps d t (omega (arith, size, lt))))

@@ -2,35 +2,35 @@ use Rattle.std.proofs.Common.{◌≡◌, ℕ, ◌+◌, ◌-◌, ◌≤◌, min, 
 use Rattle.pilot_codecs.specs.Spelling.{compact_text, groups_for}
 use Rattle.pilot_codecs.specs.Reading.{groups_at}
 use Rattle.pilot_codecs.proofs.GroupLemmas.{with_front, goes_on, ends, is_done, more_read, compact_at-fails}
+use Rattle.std.proofs.Math.Nat.{min_comm}
 use Rattle.std.proofs.lemmas.List.{length-append}
 use Rattle.pilot_codecs.proofs.CompactLaws.{compact_takes}
-use Rattle.pilot_codecs.proofs.groups.read_groups.Goals.{then-left-lt-GROUP, else-left-lt-GROUP}
 use Rattle.std.proofs.lemmas.Result.{err_from_is_err_and}
 use Rattle.pilot_codecs.proofs.groups.read_groups.Goals as goal
 
 pub returns-in_err-after : goal.returns-in_err-after
 returns-in_err-after c =
-    let s : c.if-left-lt-GROUP.size ≡ min 256 c.loop-left.left = elim c.if-left-lt-GROUP.branch [ then-left-lt-GROUP w ↦ omega (arith, w.size-is, w.if-left-lt-GROUP.true) | else-left-lt-GROUP w ↦ omega (arith, w.size-is, w.if-left-lt-GROUP.false) ] in
+    let s : c.min-size.result ≡ min 256 c.loop-left.left = c.min-size.ensures ∙ min_comm c.loop-left.left 256 in
     let p = err_from_is_err_and c.from_residual.result c.from_residual.ensures.1 in
-    let fault = compact_at-fails c.in_err-after.field-0.0 c.loop-left.groups c.loop-left.place c.if-left-lt-GROUP.size c.loop-left.rest.now c.in_err-after.ensures.groups in
-    rw (p.1, p.2) (ends c.in_err-after.field-0.0 c.loop-left.groups c.loop-left.left c.loop-left.place c.if-left-lt-GROUP.size c.loop-left.rest.now (groups_at (groups_for c.args.count) c.args.at c.args.count c.args.bytes.now) c.loop-left-test.true s fault c.loop-left.invariant.so_far)
+    let fault = compact_at-fails c.in_err-after.field-0.0 c.loop-left.groups c.loop-left.place c.min-size.result c.loop-left.rest.now c.in_err-after.ensures.groups in
+    rw (p.1, p.2) (ends c.in_err-after.field-0.0 c.loop-left.groups c.loop-left.left c.loop-left.place c.min-size.result c.loop-left.rest.now (groups_at (groups_for c.args.count) c.args.at c.args.count c.args.bytes.now) c.loop-left-test.true s fault c.loop-left.invariant.so_far)
 
 pub overflow_sub-place : goal.overflow_sub-place
 overflow_sub-place c =
-    let m = more_read c.loop-left.groups c.read_more.new.self c.loop-left.place c.if-left-lt-GROUP.size c.loop-left.rest.now c.in_ok-after.after.now c.in_ok-after.ensures.groups in
-    let t = compact_takes c.loop-left.place c.if-left-lt-GROUP.size c.loop-left.rest.now m.group c.in_ok-after.after.now c.loop-left.invariant.fits m.read in
+    let m = more_read c.loop-left.groups c.read_more.new.self c.loop-left.place c.min-size.result c.loop-left.rest.now c.in_ok-after.after.now c.in_ok-after.ensures.groups in
+    let t = compact_takes c.loop-left.place c.min-size.result c.loop-left.rest.now m.group c.in_ok-after.after.now c.loop-left.invariant.fits m.read in
     let shorter : length c.in_ok-after.after.now ≤ length c.loop-left.rest.now = omega (arith, ap length t.taken.parts, length-append (compact_text m.group) c.in_ok-after.after.now) in
     shorter
 
 pub loop-left-preserved : goal.loop-left-preserved
 loop-left-preserved c =
-    let s : c.if-left-lt-GROUP.size ≡ min 256 c.loop-left.left = elim c.if-left-lt-GROUP.branch [ then-left-lt-GROUP w ↦ omega (arith, w.size-is, w.if-left-lt-GROUP.true) | else-left-lt-GROUP w ↦ omega (arith, w.size-is, w.if-left-lt-GROUP.false) ] in
-    let m = more_read c.loop-left.groups c.read_more.new.self c.loop-left.place c.if-left-lt-GROUP.size c.loop-left.rest.now c.in_ok-after.after.now c.in_ok-after.ensures.groups in
-    let t = compact_takes c.loop-left.place c.if-left-lt-GROUP.size c.loop-left.rest.now m.group c.in_ok-after.after.now c.loop-left.invariant.fits m.read in
+    let s : c.min-size.result ≡ min 256 c.loop-left.left = c.min-size.ensures ∙ min_comm c.loop-left.left 256 in
+    let m = more_read c.loop-left.groups c.read_more.new.self c.loop-left.place c.min-size.result c.loop-left.rest.now c.in_ok-after.after.now c.in_ok-after.ensures.groups in
+    let t = compact_takes c.loop-left.place c.min-size.result c.loop-left.rest.now m.group c.in_ok-after.after.now c.loop-left.invariant.fits m.read in
     let shorter : length c.in_ok-after.after.now ≤ length c.loop-left.rest.now = omega (arith, ap length t.taken.parts, length-append (compact_text m.group) c.in_ok-after.after.now) in
     record {
-      so_far = ap (λ (gs : List (List ℕ)). with_front gs (groups_at (groups_for (c.loop-left.left - c.if-left-lt-GROUP.size)) (c.loop-left.place + (length c.loop-left.rest.now - length c.in_ok-after.after.now)) (c.loop-left.left - c.if-left-lt-GROUP.size) c.in_ok-after.after.now)) m.more
-          ∙ goes_on c.loop-left.groups c.loop-left.left c.loop-left.place c.if-left-lt-GROUP.size c.loop-left.rest.now m.group c.in_ok-after.after.now (groups_at (groups_for c.args.count) c.args.at c.args.count c.args.bytes.now) c.loop-left-test.true s m.read c.loop-left.invariant.so_far;
+      so_far = ap (λ (gs : List (List ℕ)). with_front gs (groups_at (groups_for (c.loop-left.left - c.min-size.result)) (c.loop-left.place + (length c.loop-left.rest.now - length c.in_ok-after.after.now)) (c.loop-left.left - c.min-size.result) c.in_ok-after.after.now)) m.more
+          ∙ goes_on c.loop-left.groups c.loop-left.left c.loop-left.place c.min-size.result c.loop-left.rest.now m.group c.in_ok-after.after.now (groups_at (groups_for c.args.count) c.args.at c.args.count c.args.bytes.now) c.loop-left-test.true s m.read c.loop-left.invariant.so_far;
       few = omega (arith, c.loop-left.invariant.few);
       places = omega (arith, c.loop-left.invariant.places, shorter);
       fits = t.taken.rest_fits;
