@@ -76,10 +76,7 @@ impl Dict {
         ensures { Gives (λ x. (x.0, x.1.now)) result (dict_at at count bytes.now) }
     {
         let (size, rest) = read_number(at, bytes)?;
-        if size > count {
-            return Err(ReadErr::Form(FormFault { at, kind: COUNT }));
-        }
-        if size == 0 && count != 0 {
+        if size > count || (size == 0 && count != 0) {
             return Err(ReadErr::Form(FormFault { at, kind: COUNT }));
         }
         entries_of(alloc, at, count, size, rest)

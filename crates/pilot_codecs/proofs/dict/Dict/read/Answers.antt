@@ -1,6 +1,7 @@
 use Rattle.std.proofs.Common.{inl, inr}
 use Rattle.pilot_codecs.proofs.DictForms.{dict_at-number, dict_at-size, dict_at-entries}
 use Rattle.std.proofs.lemmas.Result.{err_from_is_err_and}
+use Rattle.pilot_codecs.proofs.dict.Dict.read.Goals.{then-size-count-via-then-size-count, then-size-count-via-else-size-count+then-count-ne0}
 use Rattle.pilot_codecs.proofs.dict.Dict.read.Goals as goal
 
 pub returns-in_err-size : goal.returns-in_err-size
@@ -9,10 +10,11 @@ returns-in_err-size c =
     rw (p.1, p.2) (dict_at-number c.in_err-size.field-0.0 c.args.at c.args.count c.args.bytes.now c.in_err-size.ensures)
 
 pub returns-then-size-count : goal.returns-then-size-count
-returns-then-size-count c = dict_at-size c.args.at c.args.count c.in_ok-size.size c.args.bytes.now c.in_ok-size.rest.now c.in_ok-size.ensures (inl c.if-size-count.true)
-
-pub returns-then-count-ne0 : goal.returns-then-count-ne0
-returns-then-count-ne0 c = dict_at-size c.args.at c.args.count c.in_ok-size.size c.args.bytes.now c.in_ok-size.rest.now c.in_ok-size.ensures (inr (c.if-size-eq0.true, c.if-count-ne0.true))
+returns-then-size-count c = dict_at-size c.args.at c.args.count c.in_ok-size.size c.args.bytes.now c.in_ok-size.rest.now c.in_ok-size.ensures
+    (elim c.then-size-count.branch [
+      | then-size-count-via-then-size-count w ↦ inl w.if-size-count.true
+      | then-size-count-via-else-size-count+then-count-ne0 w ↦ inr w.if-count-ne0.true
+    ])
 
 pub returns : goal.returns
-returns c = rw (dict_at-entries c.args.at c.args.count c.in_ok-size.size c.args.bytes.now c.in_ok-size.rest.now c.in_ok-size.ensures c.if-size-count.false c.else-size-eq0.either) c.entries_of.ensures
+returns c = rw (dict_at-entries c.args.at c.args.count c.in_ok-size.size c.args.bytes.now c.in_ok-size.rest.now c.in_ok-size.ensures c.if-size-count.false c.if-count-ne0.either) c.entries_of.ensures
