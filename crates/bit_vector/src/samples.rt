@@ -13,7 +13,7 @@ pub fn counts_of(alloc: Global, words: &[u64]) -> Result<Vec<u64>, NoMemory>
     requires { length words.now ≤ 2 ^ 36 }
     ensures { IfOk result (λ v. IsCounted words.now v.items) }
 {
-    let mut counts = Vec::new(alloc);
+    let mut counts = Vec::with_capacity(alloc, words.len().div_ceil(BLOCK) + 1)?;
     let mut total = 0;
     for (at, word) in words.iter().enumerate() {
         if at % BLOCK == 0 {
@@ -32,7 +32,8 @@ pub fn hints_of(alloc: Global, counts: &[u64]) -> Result<Vec<usize>, NoMemory>
     requires most { (b : ℕ) → slice_index counts.now b ≤ 2 ^ 42 }
     ensures { IfOk result (λ v. IsHinted v.items counts.now) }
 {
-    let mut hints = Vec::new(alloc);
+    let ones = counts[counts.len() - 1];
+    let mut hints = Vec::with_capacity(alloc, ones.div_ceil(STEP) as usize)?;
     let mut next = 0;
     let mut block = 0;
     while block + 1 < counts.len() {
