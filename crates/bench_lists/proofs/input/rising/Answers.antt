@@ -1,4 +1,4 @@
-use Rattle.std.proofs.Common.{arith, rules, ◌∙◌, sym, ap, subst}
+use Rattle.std.proofs.Common.{arith}
 use Rattle.bench_lists.proofs.Rising.{rises-none, last_of-none, rises-push, last_of-push}
 use Rattle.bench_lists.proofs.input.rising.Goals as goal
 
