@@ -1,5 +1,5 @@
 // Lists of small numbers under one code, timed.
-ghost use Rattle.std.specs.Prelude.{◌<◌, ◌^◌, ◌≤◌, ℕ, length, slice_index, IsTrue};
+ghost use Rattle.std.specs.Prelude.{◌<◌, ◌^◌, ◌≤◌, ℕ, slice_index, IsTrue};
 
 use crate::input::Numbers;
 use crate::parts::{QUESTIONS, Timed, out_of_memory, place_below};

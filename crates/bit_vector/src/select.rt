@@ -1,4 +1,4 @@
-ghost use Rattle.std.specs.Prelude.{◌≡◌, ℕ, ◌<◌, ◌≤◌, List, Bool, length, take, IfOk};
+ghost use Rattle.std.specs.Prelude.{◌≡◌, ◌≤◌, List, Bool, length, take, IfOk};
 ghost use Rattle.std.specs.List.{slice_get};
 ghost use Rattle.bit_vector.specs.Bits.{ones, places};
 

@@ -1,5 +1,4 @@
-ghost use Rattle.std.specs.Prelude.{◌≡◌, ◌+◌, ◌-◌, ◌*◌, ◌/◌, ◌%◌, ◌^◌, ◌<◌, ◌≤◌, ◌↔◌, ◌⊎◌, length, slice_index, IsTrue};
-ghost use Rattle.bit_vector.specs.Bits.{ones, places};
+ghost use Rattle.std.specs.Prelude.{◌≡◌, ◌+◌, ◌*◌, ◌/◌, ◌^◌, ◌<◌, ◌≤◌, ◌↔◌, ◌⊎◌, slice_index, IsTrue};
 ghost use Rattle.elias_fano.specs.Spelling.{low_width, last_of, rises};
 ghost use Rattle.elias_fano.specs.Values.{values_of, AreParts};
 

@@ -1,6 +1,5 @@
-ghost use Rattle.std.specs.Prelude.{◌≡◌, ◌+◌, ◌*◌, ◌/◌, ◌%◌, ◌^◌, ◌<◌, ◌≤◌, ◌++◌, length, take, drop, OnOk};
+ghost use Rattle.std.specs.Prelude.{◌≡◌, ◌+◌, ◌*◌, ◌^◌, ◌≤◌, ◌++◌, length, take, drop, OnOk};
 ghost use Rattle.std.specs.Int.{w64, from_le_bytes};
-ghost use Rattle.bit_vector.specs.Bits.{words_for};
 ghost use Rattle.elias_fano.specs.Spelling.{low_width, high_len};
 ghost use Rattle.elias_fano.specs.declared.fault.ReadErr.TheVariants.{Form};
 ghost use Rattle.elias_fano.specs.Reading.{Gives, fault, number_at, words_in, run_at, checked, parts_at, list_at};

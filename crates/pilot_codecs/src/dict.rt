@@ -1,9 +1,9 @@
-ghost use Rattle.std.specs.Prelude.{◌≡◌, ◌+◌, ◌*◌, ◌^◌, ◌<◌, ◌≤◌, ◌++◌, true, length, take, drop, slice_index, IfOk, OnOk};
+ghost use Rattle.std.specs.Prelude.{◌≡◌, ◌+◌, ◌^◌, ◌≤◌, ◌++◌, length, take, IfOk, OnOk};
 ghost use Rattle.std.specs.List.{slice_get, flat_map};
 ghost use Rattle.elias_fano.specs.Spelling.{number};
 ghost use Rattle.elias_fano.specs.Reading.{Gives};
 ghost use Rattle.pilot_codecs.specs.Spelling.{dict_text, compact_text};
-ghost use Rattle.pilot_codecs.specs.Reading.{rise_len, are_below, are_used, used_at, indexed_at, entries_at, dict_at};
+ghost use Rattle.pilot_codecs.specs.Reading.{rise_len, used_at, indexed_at, entries_at, dict_at};
 
 use crate::compact::Compact;
 use crate::distinct::{distinct_of, indexes_of};

@@ -1,7 +1,7 @@
-ghost use Rattle.std.specs.Prelude.{◌≡◌, ◌+◌, ◌*◌, ◌^◌, ◌<◌, ◌≤◌, ◌++◌, length, take, drop, IfOk, OnOk};
+ghost use Rattle.std.specs.Prelude.{◌≡◌, ◌+◌, ◌^◌, ◌≤◌, ◌++◌, length, take, IfOk, OnOk};
 ghost use Rattle.std.specs.List.{slice_get, flat_map};
 ghost use Rattle.elias_fano.specs.Reading.{Gives};
-ghost use Rattle.pilot_codecs.specs.Spelling.{parted_text, groups_for};
+ghost use Rattle.pilot_codecs.specs.Spelling.{parted_text};
 ghost use Rattle.pilot_codecs.specs.Reading.{parted_at};
 
 use crate::GROUP;

@@ -2,7 +2,7 @@ ghost use Rattle.std.specs.Prelude.{◌≡◌, ◌+◌, ◌^◌, ◌<◌, ◌≤
 ghost use Rattle.std.specs.List.{slice_get};
 ghost use Rattle.pthash.specs.Sizes.{front_count_of};
 ghost use Rattle.elias_fano.specs.Reading.{Gives};
-ghost use Rattle.pilot_codecs.specs.Spelling.{greatest, code_text, pair_text};
+ghost use Rattle.pilot_codecs.specs.Spelling.{code_text, pair_text};
 ghost use Rattle.pilot_codecs.specs.Values.{values_of, code_of};
 ghost use Rattle.pilot_codecs.specs.Encoded.{Encoded, encoded_of, IsSplit, IsSpelled, pair_at};
 
