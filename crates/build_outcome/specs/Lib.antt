@@ -1,5 +1,10 @@
 pub mod Clash
 pub mod ClashLaws
+pub mod FreeList
+pub mod Index
+pub mod Mark
+pub mod Values
+pub mod Validity
 pub mod Attempt
 pub mod Outcome
 pub mod OutcomeLaws

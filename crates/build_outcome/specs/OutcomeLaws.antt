@@ -8,7 +8,8 @@ use Rattle.pthash.specs.Partitions.{partitions_of}
 use Rattle.pthash.specs.Records.{records_of}
 use Rattle.build_outcome.specs.Clash.{key_at, clash_of}
 use Rattle.build_outcome.specs.ClashLaws.{IsEarlierIn, clash_of-earlier}
-use Rattle.build_outcome.specs.Attempt.{Rules, PartPilots, Attempt, clashed, stuck, ended, by_parts, unless_clash, attempt_of, parts_from}
+use Rattle.build_outcome.specs.Attempt.{Rules, Attempt, clashed, stuck, complete, by_parts, unless_clash, attempt_of, parts_from}
+use Rattle.build_outcome.specs.Index.{PartData, IndexData}
 use Rattle.build_outcome.specs.Outcome.{Outcome, repeated, exhausted, built, after_attempt, outcome_from}
 
 -- two places of the list, the first before the second, hold equal keys
@@ -16,11 +17,11 @@ pub record IsRepeat (keys : List (List ℕ)) (i j : ℕ) : Type 0 where
   pub places : IsEarlierIn keys i j
   pub equal : key_at keys i ≡ key_at keys j
 
-parts_do_not_clash : (parts : Result (List PartPilots) (ℕ × ℕ)) (i j : ℕ) → ¬ (by_parts parts ≡ clashed i j)
+parts_do_not_clash : (parts : Result (List PartData) (ℕ × ℕ)) (i j : ℕ) → ¬ (by_parts parts ≡ clashed i j)
 parts_do_not_clash (Ok parts) i j same = cc
 parts_do_not_clash (Err e) i j same = cc
 
-clash_of_attempt : (clash : Option (ℕ × ℕ)) (parts : Result (List PartPilots) (ℕ × ℕ)) (i j : ℕ)
+clash_of_attempt : (clash : Option (ℕ × ℕ)) (parts : Result (List PartData) (ℕ × ℕ)) (i j : ℕ)
     → unless_clash clash (by_parts parts) ≡ clashed i j → clash ≡ Some (i, j)
 clash_of_attempt None parts i j same = absurd (parts_do_not_clash parts i j same)
 clash_of_attempt (Some c) parts i j same =
@@ -38,7 +39,7 @@ attempt_of-clashed rules keys seed i j same =
 abbrev RepeatsKey : List (List ℕ) → Outcome → Type 0
 RepeatsKey keys (repeated i j) = IsRepeat keys i j
 RepeatsKey keys (exhausted causes) = Unit {0}
-RepeatsKey keys (built seed parts) = Unit {0}
+RepeatsKey keys (built x) = Unit {0}
 
 repeat_or_on : (keys : List (List ℕ)) (i j : ℕ) (test : Bool) (later : Outcome) → bytes_eq (key_at keys i) (key_at keys j) ≡ test
     → IsEarlierIn keys i j → RepeatsKey keys later → RepeatsKey keys (cond test (repeated i j) later)
@@ -47,12 +48,12 @@ repeat_or_on keys i j true later same places more =
 repeat_or_on keys i j false later other places more = more
 
 after_repeats : (rules : Rules) (keys : List (List ℕ)) (seed : ℕ) (go_on : Cause → Outcome) (attempt : Attempt) → attempt_of rules keys seed ≡ attempt
-    → ((cause : Cause) → RepeatsKey keys (go_on cause)) → RepeatsKey keys (after_attempt keys seed go_on attempt)
+    → ((cause : Cause) → RepeatsKey keys (go_on cause)) → RepeatsKey keys (after_attempt rules keys seed go_on attempt)
 after_repeats rules keys seed go_on (clashed i j) is more =
     repeat_or_on keys i j (bytes_eq (key_at keys i) (key_at keys j)) (go_on (SameHash i j)) refl
     (clash_of-earlier keys seed i j (attempt_of-clashed rules keys seed i j is)) (more (SameHash i j))
 after_repeats rules keys seed go_on (stuck part bucket) is more = more (Stuck part bucket)
-after_repeats rules keys seed go_on (ended parts) is more = tt
+after_repeats rules keys seed go_on (complete parts) is more = tt
 
 outcome_repeats : (rules : Rules) (keys : List (List ℕ)) (causes : List Cause) (seeds : List ℕ) → RepeatsKey keys (outcome_from rules keys causes seeds)
 outcome_repeats rules keys causes [] = tt

@@ -1,7 +1,7 @@
 //! What a build of a list of keys comes to, as definitions that contracts cite.
 #![tactic(auto)]
 
-/// Why a seed did not lead to an end.
+/// Why a seed did not succeed.
 #[derive(Clone, Copy, Debug, PartialEq, Eq)]
 pub enum Cause {
     /// The keys at these places, counted from 0, have the same pair of hashes.

@@ -1,10 +1,11 @@
 -- Worked examples of the definitions: each is computed.
 use Rattle.std.specs.Prelude.{◌≡◌, ℕ, List, [], ◌∷◌, replicate, refl}
 use lib.Count.{ones}
+use Rattle.pthash.specs.declared.Map.TheVariants.{Skewed, Uniform}
 use Rattle.pthash.specs.declared.Record.{Record}
 use Rattle.pthash.specs.declared.TheConstants.{MULTIPLIER}
 use Rattle.pthash.specs.Hash.{hash_of, blocks_of, pilot_hash, product}
-use Rattle.pthash.specs.Sizes.{table_size_of, bucket_count_of, front_count_of, bucket_of, partition_of, halvings}
+use Rattle.pthash.specs.Sizes.{table_size_of, bucket_count_of, front_count_of, skewed_bucket_of, bucket_of, partition_of, halvings}
 use Rattle.pthash.specs.Order.{order_of, ranked, numbers_below}
 
 pub hash_of_no_bytes_at_0 : hash_of [] 0 ≡ 0
@@ -78,16 +79,16 @@ bucket_count_of_a_thousand = refl
 pub front_count_of_778 : front_count_of 778 ≡ 233
 front_count_of_778 = refl
 
-pub bucket_of_the_last_front_hash : bucket_of 11068046444225730968 7 ≡ 0
-unfolding bucket_of
+pub bucket_of_the_last_front_hash : bucket_of Skewed 11068046444225730968 7 ≡ 0
+unfolding skewed_bucket_of
 bucket_of_the_last_front_hash = refl
 
-pub bucket_of_the_first_back_hash : bucket_of 11068046444225730969 7 ≡ 6
-unfolding bucket_of
+pub bucket_of_the_first_back_hash : bucket_of Skewed 11068046444225730969 7 ≡ 6
+unfolding skewed_bucket_of
 bucket_of_the_first_back_hash = refl
 
-pub bucket_of_without_front_buckets : bucket_of 5 3 ≡ 2
-unfolding bucket_of
+pub bucket_of_without_front_buckets : bucket_of Skewed 5 3 ≡ 2
+unfolding skewed_bucket_of
 bucket_of_without_front_buckets = refl
 
 pub partition_of_the_greatest_xor : partition_of 0xffffffffffffffff 0 8 ≡ 7
@@ -107,8 +108,33 @@ seven_records =
     ∷ record { a = 11068046444225730974; b = 16; ordinal = 6 } ∷ []
 
 pub order_of_seven_records :
-    order_of seven_records 4
+    order_of seven_records Skewed 4
     ≡ record { number = 2; members = 12 ∷ 13 ∷ 14 ∷ [] } ∷ record { number = 0; members = 10 ∷ 11 ∷ [] }
     ∷ record { number = 3; members = 15 ∷ 16 ∷ [] } ∷ []
-unfolding order_of ranked numbers_below bucket_of
+unfolding order_of ranked numbers_below skewed_bucket_of
 order_of_seven_records = refl
+
+pub bucket_of_the_greatest_hash : bucket_of Skewed 0xffffffffffffffff 7 ≡ 2
+unfolding skewed_bucket_of
+bucket_of_the_greatest_hash = refl
+
+pub bucket_of_the_greatest_hash_when_uniform : bucket_of Uniform 0xffffffffffffffff 7 ≡ 1
+bucket_of_the_greatest_hash_when_uniform = refl
+
+-- records with these first hashes and the second hashes 10, 11 and so on
+abbrev four_records : List Record
+four_records =
+    record { a = 0; b = 10; ordinal = 0 } ∷ record { a = 1; b = 11; ordinal = 1 }
+    ∷ record { a = 2; b = 12; ordinal = 2 } ∷ record { a = 4; b = 13; ordinal = 3 } ∷ []
+
+pub order_of_four_records :
+    order_of four_records Skewed 4 ≡ record { number = 0; members = 10 ∷ 11 ∷ 12 ∷ 13 ∷ [] } ∷ []
+unfolding order_of ranked numbers_below skewed_bucket_of
+order_of_four_records = refl
+
+pub order_of_four_records_when_uniform :
+    order_of four_records Uniform 4
+    ≡ record { number = 0; members = 10 ∷ 13 ∷ [] } ∷ record { number = 1; members = 11 ∷ [] }
+    ∷ record { number = 2; members = 12 ∷ [] } ∷ []
+unfolding order_of ranked numbers_below
+order_of_four_records_when_uniform = refl

@@ -1,11 +1,11 @@
 -- The search for pilots: one bucket after another takes the least pilot that sends its keys to distinct free positions.
-use Rattle.std.specs.Prelude.{ℕ, zero, suc, ◌≡◌, ◌%◌, ◌^◌, ◌<◌, ◌≤◌, false, Bool, true, not, ◌&&◌, ◌==◌, List, [], ◌∷◌, ◌++◌, length, map, bit_xor, if◌then◌else◌, Option, Some, None, Result, Ok, Err}
+use Rattle.std.specs.Prelude.{ℕ, zero, suc, ◌≡◌, ◌%◌, ◌^◌, ◌<◌, ◌≤◌, false, Bool, true, not, ◌&&◌, ◌==◌, List, [], ◌∷◌, ◌++◌, length, map, filter, bit_xor, if◌then◌else◌, Option, Some, None, Result, Ok, Err}
 use Rattle.std.specs.List.{list_any, list_all}
 use Rattle.std.specs.Option.{option_or}
 use Rattle.std.specs.Ordering.{nat_cmp}
 use Rattle.std.specs.FinSet.{FinSet, empty, contains, union, from_list}
 use Rattle.pthash.specs.Hash.{pilot_hash}
-use Rattle.pthash.specs.Order.{Bucket, bucket_at, member_count, HasNoEmptyBucket}
+use Rattle.pthash.specs.Order.{Bucket, bucket_at, member_count, numbers_below, HasNoEmptyBucket}
 
 -- what a search is given: the seed, the size of the table, how many pilots may be tried, and the buckets by rank
 pub record SearchPlan : Type 0 where
@@ -27,14 +27,22 @@ pub record IsSearchable (plan : SearchPlan) : Type 0 where
 abbrev pub Positions : Type 0
 Positions = FinSet nat_cmp
 
+-- the positions below a size that pass the test
+unfoldable pub set_of : ℕ → (ℕ → Bool) → Positions
+set_of size test = from_list (filter test (numbers_below size))
+
 -- where a search stands: the pilots by rank, and the positions that are taken
 pub record SearchState : Type 0 where
   pub pilots : List ℕ
   pub taken : Positions
 
+-- the position of a member under a pilot at this seed, in a table of this size
+abbrev pub position_of : ℕ → ℕ → ℕ → ℕ → ℕ
+position_of seed size pilot member = bit_xor member (pilot_hash pilot seed) % size
+
 -- the positions of members under a pilot, in their order
-abbrev pub positions_of : SearchPlan → List ℕ → ℕ → List ℕ
-positions_of plan members pilot = map (λ b. bit_xor b (pilot_hash pilot plan.seed) % plan.size) members
+abbrev pub positions_of : ℕ → ℕ → List ℕ → ℕ → List ℕ
+positions_of seed size members pilot = map (position_of seed size pilot) members
 
 -- whether a number is in the list
 abbrev pub is_among : List ℕ → ℕ → Bool
@@ -61,26 +69,26 @@ pub record IsLeast (test : ℕ → Bool) (n k : ℕ) : Type 0 where
   pub first : (j : ℕ) → j < k → test j ≡ false
 
 -- whether a pilot of a bucket's members fits
-abbrev pub pilot_fits : SearchPlan → (ℕ → Bool) → List ℕ → ℕ → Bool
-pilot_fits plan is_taken members pilot = fits is_taken (positions_of plan members pilot)
+abbrev pub pilot_fits : ℕ → ℕ → (ℕ → Bool) → List ℕ → ℕ → Bool
+pilot_fits seed size is_taken members pilot = fits is_taken (positions_of seed size members pilot)
 
 -- the pilot of a bucket's members: the least one below the limit that fits
-abbrev pub pilot_of : SearchPlan → (ℕ → Bool) → List ℕ → Option ℕ
-pilot_of plan is_taken members = least_below (pilot_fits plan is_taken members) plan.limit
+abbrev pub pilot_of : ℕ → ℕ → ℕ → (ℕ → Bool) → List ℕ → Option ℕ
+pilot_of seed size limit is_taken members = least_below (pilot_fits seed size is_taken members) limit
 
 -- the state after the bucket at a rank took its pilot, or that rank where it has none
 abbrev pub with_pilot : SearchPlan → ℕ → SearchState → Option ℕ → Result SearchState ℕ
 with_pilot plan rank state None = Err rank
 with_pilot plan rank state (Some k) = Ok (record {
   pilots = state.pilots ++ k ∷ [];
-  taken = union state.taken (from_list (positions_of plan (bucket_at plan.buckets rank).members k));
+  taken = union state.taken (from_list (positions_of plan.seed plan.size (bucket_at plan.buckets rank).members k));
 })
 
 -- a search that is stuck stays so, and another goes on with the bucket at this rank
 abbrev pub after_bucket : SearchPlan → ℕ → Result SearchState ℕ → Result SearchState ℕ
 after_bucket plan rank (Err stuck) = Err stuck
 after_bucket plan rank (Ok state) =
-    with_pilot plan rank state (pilot_of plan (contains state.taken) (bucket_at plan.buckets rank).members)
+    with_pilot plan rank state (pilot_of plan.seed plan.size plan.limit (contains state.taken) (bucket_at plan.buckets rank).members)
 
 -- the state after the first buckets, or the rank at which the search is stuck
 unfoldable pub prefix_of : SearchPlan → ℕ → Result SearchState ℕ

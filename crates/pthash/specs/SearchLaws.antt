@@ -44,7 +44,7 @@ fits-more taken larger more ps fails =
 unfoldable pub first_positions : SearchPlan → List ℕ → ℕ → List ℕ
 first_positions plan pilots zero = []
 first_positions plan pilots (suc rank) =
-    first_positions plan pilots rank ++ positions_of plan (bucket_at plan.buckets rank).members (slice_index pilots rank)
+    first_positions plan pilots rank ++ positions_of plan.seed plan.size (bucket_at plan.buckets rank).members (slice_index pilots rank)
 
 -- the state after the first t buckets
 pub record IsReached (plan : SearchPlan) (t : ℕ) (state : SearchState) : Type 0 where
@@ -52,14 +52,14 @@ pub record IsReached (plan : SearchPlan) (t : ℕ) (state : SearchState) : Type 
   pub taken_are_theirs : (p : ℕ) → contains state.taken p ≡ is_among (first_positions plan state.pilots t) p
   pub distinct : is_distinct (first_positions plan state.pilots t) ≡ true
   pub in_the_table : list_all (λ p. nat_lt p plan.size) (first_positions plan state.pilots t) ≡ true
-  pub least : (rank : ℕ) → rank < t → IsLeast (pilot_fits plan (is_among (first_positions plan state.pilots rank)) (bucket_at plan.buckets rank).members) plan.limit (slice_index state.pilots rank)
+  pub least : (rank : ℕ) → rank < t → IsLeast (pilot_fits plan.seed plan.size (is_among (first_positions plan state.pilots rank)) (bucket_at plan.buckets rank).members) plan.limit (slice_index state.pilots rank)
 
 -- the search is stuck at a rank below t: it reached that rank, and no pilot fits what the earlier buckets left
 pub record IsStuck (plan : SearchPlan) (t rank : ℕ) : Type 0 where
   pub below : rank < t
   pub state : SearchState
   pub reached : IsReached plan rank state
-  pub no_pilot : (k : ℕ) → k < plan.limit → pilot_fits plan (is_among (first_positions plan state.pilots rank)) (bucket_at plan.buckets rank).members k ≡ false
+  pub no_pilot : (k : ℕ) → k < plan.limit → pilot_fits plan.seed plan.size (is_among (first_positions plan state.pilots rank)) (bucket_at plan.buckets rank).members k ≡ false
 
 same_first_positions : (plan : SearchPlan) (pilots : List ℕ) (k t : ℕ) → t ≤ length pilots → first_positions plan (pilots ++ k ∷ []) t ≡ first_positions plan pilots t
 unfolding first_positions
@@ -90,10 +90,10 @@ is_distinct-append (x ∷ xs) ys distinct fit =
     (not_from_false (is_among (xs ++ ys) x) (list_any-append (λ y. y == x) xs ys ∙ or_from (is_among xs x) (is_among ys x) (not-true (is_among xs x) first.0) away.0))
     (is_distinct-append xs ys first.1 (and_from (list_all (λ p. not (is_among xs p)) ys) (is_distinct ys) away.1 new.1))
 
-pub positions_in_table : (plan : SearchPlan) (members : List ℕ) (k : ℕ) → 1 ≤ plan.size → list_all (λ p. nat_lt p plan.size) (positions_of plan members k) ≡ true
+pub positions_in_table : (plan : SearchPlan) (members : List ℕ) (k : ℕ) → 1 ≤ plan.size → list_all (λ p. nat_lt p plan.size) (positions_of plan.seed plan.size members k) ≡ true
 positions_in_table plan [] k room = refl
 positions_in_table plan (b ∷ bs) k room =
-    and_from (nat_lt (bit_xor b (pilot_hash k plan.seed) % plan.size) plan.size) (list_all (λ p. nat_lt p plan.size) (positions_of plan bs k))
+    and_from (nat_lt (bit_xor b (pilot_hash k plan.seed) % plan.size) plan.size) (list_all (λ p. nat_lt p plan.size) (positions_of plan.seed plan.size bs k))
     (lt-ltb (bit_xor b (pilot_hash k plan.seed) % plan.size) plan.size (omega arith))
     (positions_in_table plan bs k room)
 
@@ -119,9 +119,9 @@ contains-positions taken ps p =
 
 -- the facts of the last rank hold of all ranks where they held of the earlier ones
 least_so_far : (plan : SearchPlan) (t k : ℕ) (state : SearchState) → IsReached plan t state
-    → IsLeast (pilot_fits plan (is_among (first_positions plan state.pilots t)) (bucket_at plan.buckets t).members) plan.limit k
+    → IsLeast (pilot_fits plan.seed plan.size (is_among (first_positions plan state.pilots t)) (bucket_at plan.buckets t).members) plan.limit k
     → (rank : ℕ) → rank < suc t → (rank < t) ⊎ (t ≤ rank)
-    → IsLeast (pilot_fits plan (is_among (first_positions plan (state.pilots ++ k ∷ []) rank)) (bucket_at plan.buckets rank).members) plan.limit (slice_index (state.pilots ++ k ∷ []) rank)
+    → IsLeast (pilot_fits plan.seed plan.size (is_among (first_positions plan (state.pilots ++ k ∷ []) rank)) (bucket_at plan.buckets rank).members) plan.limit (slice_index (state.pilots ++ k ∷ []) rank)
 least_so_far plan t k state reached least rank below side =
     elim side [
       | inl lower ↦
@@ -132,19 +132,19 @@ least_so_far plan t k state reached least rank below side =
           let here : t ≡ rank = omega arith in
           let earlier : first_positions plan (state.pilots ++ k ∷ []) t ≡ first_positions plan state.pilots t = same_first_positions plan state.pilots k t (omega (arith, reached.one_pilot_a_rank)) in
           let pilot : slice_index (state.pilots ++ k ∷ []) t ≡ k = pilot_at_end state.pilots k t reached.one_pilot_a_rank in
-          let P : ℕ → Type 0 = λ r. IsLeast (pilot_fits plan (is_among (first_positions plan (state.pilots ++ k ∷ []) r)) (bucket_at plan.buckets r).members) plan.limit (slice_index (state.pilots ++ k ∷ []) r) in
+          let P : ℕ → Type 0 = λ r. IsLeast (pilot_fits plan.seed plan.size (is_among (first_positions plan (state.pilots ++ k ∷ []) r)) (bucket_at plan.buckets r).members) plan.limit (slice_index (state.pilots ++ k ∷ []) r) in
           subst P here (rw (earlier, pilot) least)
     ]
 
 -- the next state, where a pilot is found
 one_more_reached : (plan : SearchPlan) (t k : ℕ) (state : SearchState) → 1 ≤ plan.size → IsReached plan t state
-    → IsLeast (pilot_fits plan (contains state.taken) (bucket_at plan.buckets t).members) plan.limit k
-    → IsReached plan (suc t) (record { pilots = state.pilots ++ k ∷ []; taken = union state.taken (from_list (positions_of plan (bucket_at plan.buckets t).members k)) })
+    → IsLeast (pilot_fits plan.seed plan.size (contains state.taken) (bucket_at plan.buckets t).members) plan.limit k
+    → IsReached plan (suc t) (record { pilots = state.pilots ++ k ∷ []; taken = union state.taken (from_list (positions_of plan.seed plan.size (bucket_at plan.buckets t).members k)) })
 unfolding first_positions
 one_more_reached plan t k state room reached least =
-    let new : List ℕ = positions_of plan (bucket_at plan.buckets t).members k in
+    let new : List ℕ = positions_of plan.seed plan.size (bucket_at plan.buckets t).members k in
     let same : contains state.taken ≡ is_among (first_positions plan state.pilots t) = λ i p. reached.taken_are_theirs p i in
-    let theirs : IsLeast (pilot_fits plan (is_among (first_positions plan state.pilots t)) (bucket_at plan.buckets t).members) plan.limit k = subst (λ f. IsLeast (pilot_fits plan f (bucket_at plan.buckets t).members) plan.limit k) same least in
+    let theirs : IsLeast (pilot_fits plan.seed plan.size (is_among (first_positions plan state.pilots t)) (bucket_at plan.buckets t).members) plan.limit k = subst (λ f. IsLeast (pilot_fits plan.seed plan.size f (bucket_at plan.buckets t).members) plan.limit k) same least in
     let earlier : first_positions plan (state.pilots ++ k ∷ []) t ≡ first_positions plan state.pilots t = same_first_positions plan state.pilots k t (omega (arith, reached.one_pilot_a_rank)) in
     let pilot : slice_index (state.pilots ++ k ∷ []) t ≡ k = pilot_at_end state.pilots k t reached.one_pilot_a_rank in
     record {
@@ -165,7 +165,7 @@ IsReachedOrStuck plan t (Ok state) = IsReached plan t state
 IsReachedOrStuck plan t (Err rank) = IsStuck plan t rank
 
 after_found : (plan : SearchPlan) (t : ℕ) (state : SearchState) (pilot : Option ℕ) → 1 ≤ plan.size → IsReached plan t state
-    → pilot_of plan (contains state.taken) (bucket_at plan.buckets t).members ≡ pilot
+    → pilot_of plan.seed plan.size plan.limit (contains state.taken) (bucket_at plan.buckets t).members ≡ pilot
     → IsReachedOrStuck plan (suc t) (with_pilot plan t state pilot)
 after_found plan t state None room reached found =
     let same : contains state.taken ≡ is_among (first_positions plan state.pilots t) = λ i p. reached.taken_are_theirs p i in
@@ -173,14 +173,14 @@ after_found plan t state None room reached found =
       below = omega arith;
       state = state;
       reached = reached;
-      no_pilot = λ k below. subst (λ f. pilot_fits plan f (bucket_at plan.buckets t).members k ≡ false) same (least_below-fails (pilot_fits plan (contains state.taken) (bucket_at plan.buckets t).members) plan.limit found k below);
+      no_pilot = λ k below. subst (λ f. pilot_fits plan.seed plan.size f (bucket_at plan.buckets t).members k ≡ false) same (least_below-fails (pilot_fits plan.seed plan.size (contains state.taken) (bucket_at plan.buckets t).members) plan.limit found k below);
     }
 after_found plan t state (Some k) room reached found =
-    one_more_reached plan t k state room reached (least_below-is_least (pilot_fits plan (contains state.taken) (bucket_at plan.buckets t).members) plan.limit k found)
+    one_more_reached plan t k state room reached (least_below-is_least (pilot_fits plan.seed plan.size (contains state.taken) (bucket_at plan.buckets t).members) plan.limit k found)
 
 after_any : (plan : SearchPlan) (t : ℕ) (before : Result SearchState ℕ) → 1 ≤ plan.size → IsReachedOrStuck plan t before → IsReachedOrStuck plan (suc t) (after_bucket plan t before)
 after_any plan t (Err rank) room stuck = record { below = omega (arith, stuck.below); state = stuck.state; reached = stuck.reached; no_pilot = stuck.no_pilot }
-after_any plan t (Ok state) room reached = after_found plan t state (pilot_of plan (contains state.taken) (bucket_at plan.buckets t).members) room reached refl
+after_any plan t (Ok state) room reached = after_found plan t state (pilot_of plan.seed plan.size plan.limit (contains state.taken) (bucket_at plan.buckets t).members) room reached refl
 
 -- a search reaches a state of this kind, or a bucket that no pilot fits
 pub prefix_of-reached : (plan : SearchPlan) (t : ℕ) → 1 ≤ plan.size → IsReachedOrStuck plan t (prefix_of plan t)

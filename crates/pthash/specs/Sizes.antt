@@ -2,6 +2,8 @@
 use Rattle.std.specs.Prelude.{ℕ, zero, suc, ◌+◌, ◌-◌, ◌*◌, ◌/◌, ◌%◌, ◌^◌, max, ◌&&◌, nat_lt, if◌then◌else◌, bit_xor}
 use Rattle.std.specs.Int.{div_ceil, is_power_of_two}
 use Rattle.pthash.specs.declared.TheConstants.{FRONT_HASHES}
+use Rattle.pthash.specs.declared.Map.{Map}
+use Rattle.pthash.specs.declared.Map.TheVariants.{Skewed, Uniform}
 
 -- how often n can be halved before it is below 2, at most `most` times
 unfoldable pub halvings : ℕ → ℕ → ℕ
@@ -25,11 +27,16 @@ bucket_count_of n c = div_ceil (c * n) (100 * max 1 (floor_log2 n))
 abbrev pub front_count_of : ℕ → ℕ
 front_count_of m = (3 * m) / 10
 
--- the bucket of a first hash: three fifths of the hashes go to the front buckets
-unfoldable pub bucket_of : ℕ → ℕ → ℕ
-bucket_of a m =
+-- the bucket of a first hash, of m, where three fifths of the hashes go to the front buckets
+unfoldable pub skewed_bucket_of : ℕ → ℕ → ℕ
+skewed_bucket_of a m =
     let front = front_count_of m in
     if nat_lt a FRONT_HASHES && nat_lt 0 front then a % front else front + a % (m - front)
+
+-- the bucket of a first hash under a map, of m
+abbrev pub bucket_of : Map → ℕ → ℕ → ℕ
+bucket_of Skewed a m = skewed_bucket_of a m
+bucket_of Uniform a m = a % m
 
 -- the partition of a pair of hashes, of this many
 unfoldable pub partition_of : ℕ → ℕ → ℕ → ℕ
