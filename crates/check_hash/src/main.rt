@@ -1,4 +1,4 @@
-//! Reads lines of a seed, a space and bytes in hex, and prints the hash of each in hex.
+//! Only `checks/hash.sh` runs it: reads lines of a seed, a space and bytes in hex, and prints the hash of each in hex.
 #![tactic(auto)]
 
 use anyhow::{Context, Result};
