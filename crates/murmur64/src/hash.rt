@@ -1,7 +1,6 @@
-#![tactic(auto)]
-
-ghost use Rattle.std.specs.Prelude.{◌≡◌, ◌<◌, ◌≤◌, length};
-ghost use Rattle.pthash.specs.Hash.{product, folded, number_of, after_block, after_rest, last_mixing, hash_of, pilot_hash};
+// The hash of bytes, and that of a pilot.
+ghost use Rattle.std.specs.Prelude.{◌≡◌, ◌<◌, length};
+ghost use Rattle.pthash.specs.Hash.{folded, after_block, after_rest, last_mixing, hash_of, pilot_hash};
 
 use byteorder::{ByteOrder, LittleEndian};
 use pthash::MULTIPLIER;
@@ -36,6 +35,7 @@ fn mix_rest(h: u64, rest: &[u8]) -> u64
     (h ^ number).wrapping_mul(MULTIPLIER)
 }
 
+// The last mixing.
 #[inline]
 fn finish(h: u64) -> u64
     ensures { result ≡ last_mixing h }

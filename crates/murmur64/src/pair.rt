@@ -1,5 +1,4 @@
-#![tactic(auto)]
-
+// Both hashes of a key.
 ghost use Rattle.std.specs.Prelude.{◌≡◌};
 ghost use Rattle.pthash.specs.Hash.{first_hash, second_hash};
 

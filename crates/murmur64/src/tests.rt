@@ -1,3 +1,4 @@
+// Hashes that an independent program gave.
 use super::*;
 
 #[test]
