@@ -7,6 +7,7 @@ pub mod Partitions
 pub mod OrderLaws
 pub mod Search
 pub mod Least
+pub mod Apart
 pub mod SearchLaws
 pub mod ByBucket
 pub mod ByBucketLaws
