@@ -6,13 +6,14 @@ use Rattle.std.specs.Cmp.{nat_cmp_total}
 use Rattle.std.specs.FinSet.{contains, empty, union, from_list, contains-empty, contains-union, contains-from_list_nat}
 use Rattle.std.specs.Ordering.{nat_cmp}
 use Rattle.std.proofs.Common.{refl, sym, ap, ◌∙◌, subst, arith, ⊎_elim, inl, inr}
-use Rattle.std.proofs.lemmas.Bool.{and_parts, and_from, not_from_false, not-true, or_from, or_parts, cases_lt, eqb-false, ne_eqb, lt-ltb}
+use Rattle.std.proofs.lemmas.Bool.{and_parts, and_from, and_right, not_from_false, not-true, or_from, or_parts, cases_lt, eqb-false, ne_eqb, lt-ltb}
 use Rattle.std.proofs.lemmas.List.{get_or_append_left, get_or-append_right, length-append}
 use Rattle.std.proofs.lemmas.List.Folds.{list_all-append, list_any-append}
 use Rattle.pthash.specs.Hash.{pilot_hash}
 use Rattle.pthash.specs.Order.{bucket_at}
-use Rattle.pthash.specs.Search.{SearchPlan, SearchState, positions_of, is_among, is_distinct, fits, pilot_fits, pilot_of, with_pilot, after_bucket, prefix_of, search_of, Positions, IsLeast}
-use Rattle.pthash.specs.Least.{least_below-is_least, least_below-fails}
+use Rattle.pthash.specs.Search.{SearchPlan, SearchState, position_of, positions_of, is_among, is_distinct, fits, pilot_fits, pilot_of, with_pilot, after_bucket, prefix_of, search_of, Positions, IsLeast}
+use Rattle.pthash.specs.Least.{least_below-none, least_below-is_least, least_below-fails}
+use Rattle.pthash.specs.Apart.{is_distinct-map_of_repeat}
 
 -- a position that the second test finds free, the first finds free too
 abbrev pub TakesMore : (ℕ → Bool) → (ℕ → Bool) → Type 0
@@ -39,6 +40,22 @@ fits-more taken larger more ps fails =
       | true ↦ λ fit. absurd (let yes : fits taken ps ≡ true = fits-less taken larger more ps fit in cc)
       | false ↦ λ e. e
     ] refl
+
+-- a pilot of a bucket's members that doesn't fit still doesn't where more is taken
+pub pilot_fits-more : (seed size : ℕ) (taken larger : ℕ → Bool) (members : List ℕ) (k : ℕ) → TakesMore taken larger
+    → pilot_fits seed size taken members k ≡ false → pilot_fits seed size larger members k ≡ false
+pilot_fits-more seed size taken larger members k more fails = fits-more taken larger more (positions_of seed size members k) fails
+
+-- members of which two are equal are never sent to distinct positions
+pub pilot_fits-repeated : (seed size : ℕ) (taken : ℕ → Bool) (members : List ℕ) (k : ℕ) → is_distinct members ≡ false → pilot_fits seed size taken members k ≡ false
+pilot_fits-repeated seed size taken members k twice =
+    let positions : List ℕ = positions_of seed size members k in
+    and_right (list_all (λ p. not (taken p)) positions) (is_distinct positions) (is_distinct-map_of_repeat (position_of seed size k) members twice)
+
+-- so a bucket of which two members are equal has no pilot
+pub pilot_of-repeated : (seed size limit : ℕ) (taken : ℕ → Bool) (members : List ℕ) → is_distinct members ≡ false → pilot_of seed size limit taken members ≡ None
+pilot_of-repeated seed size limit taken members twice =
+    least_below-none (pilot_fits seed size taken members) limit (λ k below. pilot_fits-repeated seed size taken members k twice)
 
 -- the positions of the first buckets under these pilots, by rank
 unfoldable pub first_positions : SearchPlan → List ℕ → ℕ → List ℕ
