@@ -9,6 +9,7 @@ pub mod Search
 pub mod Least
 pub mod Apart
 pub mod SearchLaws
+pub mod PrefixLaws
 pub mod ByBucket
 pub mod ByBucketLaws
 pub mod Examples
