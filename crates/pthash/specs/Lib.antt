@@ -8,6 +8,7 @@ pub mod OrderLaws
 pub mod Search
 pub mod Least
 pub mod Apart
+pub mod ApartCounts
 pub mod SearchLaws
 pub mod PrefixLaws
 pub mod ByBucket
