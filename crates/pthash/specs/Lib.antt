@@ -13,5 +13,6 @@ pub mod SearchLaws
 pub mod PrefixLaws
 pub mod ByBucket
 pub mod ByBucketLaws
+pub mod SearchPositions
 pub mod Examples
 pub mod SearchExamples
