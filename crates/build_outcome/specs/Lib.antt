@@ -4,6 +4,7 @@ pub mod FreeList
 pub mod Index
 pub mod Mark
 pub mod Values
+pub mod FreeListLaws
 pub mod Validity
 pub mod Attempt
 pub mod Outcome

@@ -4,7 +4,7 @@ use Rattle.std.specs.Prelude.{List, [], ◌∷◌, ◌++◌, length, map, filter
 use Rattle.std.specs.List.{list_any, list_all}
 use Rattle.std.proofs.Common.{refl, sym, ap, ◌∙◌, subst, arith, ⊎_elim}
 use Rattle.std.proofs.lemmas.Bool.{and_parts, and_from, not_from_false, not-true, or_parts, cases_lt, cases_eq, eq-eqb, eqb-true, ne_eqb, ltb-true}
-use Rattle.std.proofs.lemmas.List.Sums.{sum_by-cons, sum_by-append}
+use Rattle.std.proofs.lemmas.List.Sums.{sum_by-cons, sum_by-append, sum_by_push}
 use Rattle.pthash.specs.Order.{numbers_below}
 use Rattle.pthash.specs.Search.{is_among, is_distinct}
 
@@ -19,6 +19,10 @@ count_by-cons {A} test x xs = sum_by-cons (λ (y : A). one_if (test y)) x xs
 -- the count over two lists
 pub count_by-append : {A : Type 0} (test : A → Bool) (xs ys : List A) → count_by test (xs ++ ys) ≡ count_by test xs + count_by test ys
 count_by-append {A} test xs ys = sum_by-append (λ (y : A). one_if (test y)) xs ys
+
+-- the count with one element more at the end
+pub count_by-push : {A : Type 0} (test : A → Bool) (xs : List A) (x : A) → count_by test (xs ++ x ∷ []) ≡ count_by test xs + one_if (test x)
+count_by-push {A} test xs x = sum_by_push (λ (y : A). one_if (test y)) xs x
 
 -- tests that agree count the same
 pub count_by-agree : {A : Type 0} (test other : A → Bool) → ((x : A) → test x ≡ other x) → (xs : List A) → count_by test xs ≡ count_by other xs

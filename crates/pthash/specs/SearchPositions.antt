@@ -195,7 +195,8 @@ all_among : (before xs : List ℕ) → list_all (is_among (before ++ xs)) xs ≡
 all_among before [] = refl
 all_among before (x ∷ xs) =
     let here : is_among (before ++ x ∷ xs) x ≡ true =
-    list_any-append (λ y. y == x) before (x ∷ xs) ∙ or_right (is_among before x) (x == x || is_among xs x) (or_left (x == x) (is_among xs x) (eq-eqb x x refl)) in
+    list_any-append (λ y. y == x) before (x ∷ xs)
+    ∙ or_right (is_among before x) (x == x || is_among xs x) (or_left (x == x) (is_among xs x) (eq-eqb x x refl)) in
     let moved : before ++ x ∷ xs ≡ (before ++ x ∷ []) ++ xs = sym (append_assoc before (x ∷ []) xs) in
     and_from (is_among (before ++ x ∷ xs) x) (list_all (is_among (before ++ x ∷ xs)) xs) here
     (subst (λ ys. list_all (is_among ys) xs ≡ true) (sym moved) (all_among (before ++ x ∷ []) xs))
