@@ -70,7 +70,9 @@ free_rise is_taken (suc n) i j before within =
 -- taken and free positions below n are n together
 pub taken_and_free : (is_taken : ℕ → Bool) (n : ℕ) → count_by is_taken (numbers_below n) + length (free_below is_taken n) ≡ n
 taken_and_free is_taken n =
-    omega (arith, length-filter_both is_taken (λ p. not (is_taken p)) (λ p. refl) (numbers_below n), length-filter is_taken (numbers_below n), length-numbers_below n)
+    let both : length (filter is_taken (numbers_below n)) + length (free_below is_taken n) ≡ length (numbers_below n) =
+    length-filter_both is_taken (λ p. not (is_taken p)) (λ p. refl) (numbers_below n) in
+    omega (arith, length-filter is_taken (numbers_below n), length-numbers_below n)
 
 -- one position more
 taken_from-suc : (is_taken : ℕ → Bool) (n k : ℕ) → taken_from is_taken n (suc k) ≡ taken_from is_taken n k + one_if (is_taken (n + k))
@@ -139,7 +141,9 @@ entry_rises is_taken n j k before =
     (λ (same : first ≡ second). subst (λ i. slice_index free first ≤ slice_index free i) same (omega arith))
     (λ (other : (first < second) ⊎ (second < first)).
     ⊎_elim
-    (λ (lower : first < second). let rise : slice_index free first < slice_index free second = free_rise is_taken n first second lower (omega arith) in omega arith)
+    (λ (lower : first < second).
+    let rise : slice_index free first < slice_index free second = free_rise is_taken n first second lower (omega arith) in
+    omega arith)
     (λ (higher : second < first). absurd (omega arith))
     other)
     (cases_order first second)

@@ -21,5 +21,6 @@ pub mod PrefixLaws
 pub mod ByBucket
 pub mod ByBucketLaws
 pub mod SearchPositions
+pub mod SearchOrder
 pub mod Examples
 pub mod SearchExamples
