@@ -127,3 +127,36 @@ are_apart-by_class {A} test class m stays (x ∷ xs) below each =
     and_from (not (list_any (test x) xs)) (are_apart test xs)
     (not_from_false (list_any (test x) xs) (none_by_class (test x) class (class x) (λ y passes. sym (stays x y passes)) xs none))
     (are_apart-by_class test class m stays xs parts.1 (λ k lower. class_of_tail test (λ y. class y == k) x xs (each k lower)))
+
+-- where each element is inside, those that are apart by a test that asks for this too are apart
+pub are_apart-where : {A : Type 0} (inside : A → Bool) (test : A → A → Bool) (xs : List A) → list_all inside xs ≡ true
+    → are_apart (λ x y. inside x && (inside y && test x y)) xs ≡ true → are_apart test xs ≡ true
+are_apart-where inside test [] all apart = refl
+are_apart-where {A} inside test (x ∷ xs) all apart =
+    let both : A → A → Bool = λ y z. inside y && (inside z && test y z) in
+    let here = and_parts (inside x) (list_all inside xs) all in
+    let parts = and_parts (not (list_any (both x) xs)) (are_apart both xs) apart in
+    and_from (not (list_any (test x) xs)) (are_apart test xs)
+    (not_from_false (list_any (test x) xs) (none xs here.1 (subst (λ b. list_any (λ z. b && (inside z && test x z)) xs ≡ false) here.0
+    (not-true (list_any (both x) xs) parts.0))))
+    (are_apart-where inside test xs here.1 parts.1)
+  where
+    none : (ys : List A) → list_all inside ys ≡ true → list_any (λ z. inside z && test x z) ys ≡ false → list_any (test x) ys ≡ false
+    none [] in_all fails = refl
+    none (y ∷ ys) in_all fails =
+        let first = and_parts (inside y) (list_all inside ys) in_all in
+        let rest = or_parts (inside y && test x y) (list_any (λ z. inside z && test x z) ys) fails in
+        or_from (test x y) (list_any (test x) ys) (subst (λ b. (b && test x y) ≡ false) first.0 rest.0) (none ys first.1 rest.1)
+
+-- distinct numbers that are all inside have distinct images, where the images of two inside differ
+pub is_distinct-map_where : (inside : ℕ → Bool) (f : ℕ → ℕ) → ((x y : ℕ) → inside x ≡ true → inside y ≡ true → f x ≡ f y → x ≡ y)
+    → (xs : List ℕ) → list_all inside xs ≡ true → is_distinct xs ≡ true → is_distinct (map f xs) ≡ true
+is_distinct-map_where inside f differ xs all distinct =
+    is_distinct-map f xs
+    ∙ are_apart-where inside (λ x y. f y == f x) xs all
+    (are_apart-by_images (λ x y. inside x && (inside y && f y == f x)) (λ x. x)
+    (λ x y passes.
+    let first = and_parts (inside x) (inside y && f y == f x) passes in
+    let second = and_parts (inside y) (f y == f x) first.1 in
+    differ x y first.0 second.0 (sym (eqb-true (f y) (f x) second.1)))
+    xs (ap is_distinct (map_id xs) ∙ distinct))
