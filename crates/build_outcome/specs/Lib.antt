@@ -4,8 +4,9 @@ pub mod FreeList
 pub mod Index
 pub mod Mark
 pub mod Values
-pub mod FreeListLaws
 pub mod Validity
+pub mod FreeListLaws
 pub mod Attempt
+pub mod PartLaws
 pub mod Outcome
 pub mod OutcomeLaws
