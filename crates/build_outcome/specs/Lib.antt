@@ -8,5 +8,7 @@ pub mod Validity
 pub mod FreeListLaws
 pub mod Attempt
 pub mod PartLaws
+pub mod AttemptParts
+pub mod ValueLaws
 pub mod Outcome
 pub mod OutcomeLaws

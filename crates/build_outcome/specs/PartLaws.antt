@@ -127,9 +127,9 @@ pair_position-finished rules seed records state finished r =
     let m : ℕ = bucket_count rules records in
     let part : PartData = finished_part rules seed records state in
     let count : length part.pilots ≡ m = length-pilots_by_number (partition_plan rules seed records).buckets state.pilots m in
-    let pilot : slice_index part.pilots (bucket_of rules.shape.map r.a m) ≡ pilot_by_number (partition_plan rules seed records).buckets state.pilots (bucket_number rules records r) =
-    get_or-pilots_by_number (partition_plan rules seed records).buckets state.pilots m (bucket_of rules.shape.map r.a m)
-    (bucket_of-lt rules.shape.map r.a m facts.some_bucket) in
+    let number : ℕ = bucket_number rules records r in
+    let pilot : slice_index part.pilots number ≡ pilot_by_number (partition_plan rules seed records).buckets state.pilots number =
+    get_or-pilots_by_number (partition_plan rules seed records).buckets state.pilots m number (bucket_of-lt rules.shape.map r.a m facts.some_bucket) in
     ap (λ size. position_of seed size (slice_index part.pilots (bucket_of rules.shape.map r.a (length part.pilots))) r.b)
     (part_size-finished rules seed records state finished)
     ∙ ap (λ k. position_of seed (table_size_of (length records) rules.shape.alpha) (slice_index part.pilots (bucket_of rules.shape.map r.a k)) r.b) count
@@ -140,7 +140,8 @@ abbrev pub pair_number : Map → ℕ → PartData → ℕ → ℕ → ℕ
 pair_number spread seed part a b = position_value part.n part.free (pair_position spread seed part a b)
 
 -- a partition that has a key gives each pair its number
-pub part_value-some : (spread : Map) (seed : ℕ) (part : PartData) (a b : ℕ) → 0 < part.n → part_value spread seed part a b ≡ Some (pair_number spread seed part a b)
+pub part_value-some : (spread : Map) (seed : ℕ) (part : PartData) (a b : ℕ) → 0 < part.n
+    → part_value spread seed part a b ≡ Some (pair_number spread seed part a b)
 part_value-some spread seed part a b some =
     let other : (part.n == 0) ≡ false = ne_eqb part.n 0 (λ none. omega arith) in
     rw other refl

@@ -1,10 +1,10 @@
 -- Counting in lists: what comes at most once is distinct, and the numbers that a list of distinct ones holds.
 use Rattle.std.specs.Prelude.{◌≡◌, ℕ, zero, suc, ◌+◌, ◌<◌, ◌≤◌, Bool, true, false, not, ◌&&◌, ◌||◌, ◌==◌, cond, nat_lt}
-use Rattle.std.specs.Prelude.{List, [], ◌∷◌, ◌++◌, length, map, filter, count_by}
+use Rattle.std.specs.Prelude.{List, [], ◌∷◌, ◌++◌, length, map, filter, count_by, slice_index_or}
 use Rattle.std.specs.List.{list_any, list_all}
 use Rattle.std.proofs.Common.{refl, sym, ap, ◌∙◌, subst, arith, ⊎_elim}
 use Rattle.std.proofs.lemmas.Bool.{and_parts, and_from, not_from_false, not-true, or_parts, cases_lt, cases_eq, eq-eqb, eqb-true, ne_eqb, ltb-true}
-use Rattle.std.proofs.lemmas.List.Sums.{sum_by-cons, sum_by-append, sum_by_push}
+use Rattle.std.proofs.lemmas.List.Sums.{sum_by-cons, sum_by-append, sum_by_push, get_or-le-sum_by, length-filter}
 use Rattle.pthash.specs.Order.{numbers_below}
 use Rattle.pthash.specs.Search.{is_among, is_distinct}
 
@@ -74,6 +74,14 @@ none_counted test (x ∷ xs) none =
       | true ↦ λ some. absurd (omega arith)
       | false ↦ λ rest. none_counted test xs (omega arith)
     ] (sym (count_by-cons test x xs) ∙ none)
+
+-- a filter keeps some where one passes
+pub filter_has_some : {A : Type 0} (test : A → Bool) (xs : List A) (i : ℕ) (d : A) → i < length xs → test (slice_index_or xs i d) ≡ true
+    → 0 < length (filter test xs)
+filter_has_some {A} test xs i d within passes =
+    let counted : one_if (test (slice_index_or xs i d)) ≤ count_by test xs = get_or-le-sum_by (λ (x : A). one_if (test x)) xs i d within in
+    let some : 1 ≤ count_by test xs = subst (λ b. one_if b ≤ count_by test xs) passes counted in
+    omega (arith, length-filter test xs)
 
 -- how often a number comes in a list
 abbrev pub count_of : ℕ → List ℕ → ℕ

@@ -1,10 +1,10 @@
 -- The buckets in the order of the search are those of the records.
-use Rattle.std.specs.Prelude.{◌≡◌, ℕ, ◌<◌, ◌≤◌, Bool, true, ◌==◌, List, [], length, filter, count_by, slice_index_or}
-use Rattle.std.proofs.Common.{refl, ◌∙◌, subst, arith}
+use Rattle.std.specs.Prelude.{◌≡◌, ℕ, ◌<◌, ◌≤◌, Bool, true, ◌==◌, List, [], length, filter, slice_index_or}
+use Rattle.std.proofs.Common.{refl, ◌∙◌, arith}
 use Rattle.std.proofs.lemmas.Bool.{eq-eqb}
 use Rattle.std.proofs.lemmas.List.{length-map, get_or-map}
 use Rattle.std.proofs.lemmas.List.Folds.{list_any_at}
-use Rattle.std.proofs.lemmas.List.Sums.{list_all-from_AllPass, get_or-le-sum_by, length-filter}
+use Rattle.std.proofs.lemmas.List.Sums.{list_all-from_AllPass}
 use Rattle.pthash.specs.declared.Map.{Map}
 use Rattle.pthash.specs.declared.Record.{Record}
 use Rattle.pthash.specs.Sizes.{bucket_of}
@@ -12,7 +12,7 @@ use Rattle.pthash.specs.SizeLaws.{bucket_of-lt}
 use Rattle.pthash.specs.Order.{Bucket, bucket_at, members_of, order_of}
 use Rattle.pthash.specs.OrderLaws.{numbers_distinct, members_at, rank_of}
 use Rattle.pthash.specs.Search.{is_among}
-use Rattle.pthash.specs.ApartCounts.{one_if}
+use Rattle.pthash.specs.ApartCounts.{filter_has_some}
 use Rattle.pthash.specs.SearchPositions.{numbers_of, AreBucketsOf}
 
 -- a bucket at a rank is one of the buckets
@@ -29,11 +29,8 @@ filled : (records : List Record) (spread : Map) (m i : ℕ) (d : Record) → i <
 filled records spread m i d within =
     let k : ℕ = bucket_of spread (slice_index_or records i d).a m in
     let inside : Record → Bool = λ r. bucket_of spread r.a m == k in
-    let here : inside (slice_index_or records i d) ≡ true = eq-eqb k k refl in
-    let counted : one_if (inside (slice_index_or records i d)) ≤ count_by inside records =
-    get_or-le-sum_by (λ (r : Record). one_if (inside r)) records i d within in
-    let some : 1 ≤ count_by inside records = subst (λ b. one_if b ≤ count_by inside records) here counted in
-    omega (arith, length-map (filter inside records) (λ (r : Record). r.b), length-filter inside records)
+    let some : 0 < length (filter inside records) = filter_has_some inside records i d within (eq-eqb k k refl) in
+    omega (arith, length-map (filter inside records) (λ (r : Record). r.b))
 
 -- the buckets of an order are those of its records
 pub AreBucketsOf-order_of : (records : List Record) (spread : Map) (m : ℕ) → 1 ≤ m
