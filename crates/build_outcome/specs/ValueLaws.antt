@@ -48,13 +48,14 @@ abbrev is_within : Rules → ℕ → List PartData → Record → Bool
 is_within rules seed parts r = nat_lt (number_within rules seed parts r) (part_at parts (part_number rules.parts r)).n
 
 -- there are as many partitions as the rules ask for
-pub length-parts : (rules : Rules) (seed : ℕ) (records : List Record) (parts : List PartData) → HasParts rules seed records parts → length parts ≡ rules.parts
+pub length-parts : (rules : Rules) (seed : ℕ) (records : List Record) (parts : List PartData) → HasParts rules seed records parts
+    → length parts ≡ rules.parts
 length-parts rules seed records parts has =
     (parts_from-ArePartsOf rules seed 0 (partitions_of records rules.parts) parts has.ends).count ∙ length-partitions_of records rules.parts
 
 -- each partition comes from its records
-pub part_of-records_in : (rules : Rules) (seed : ℕ) (records : List Record) (parts : List PartData) (q : ℕ) → HasParts rules seed records parts → q < rules.parts
-    → part_of rules seed (records_in records rules.parts q) ≡ Ok (part_at parts q)
+pub part_of-records_in : (rules : Rules) (seed : ℕ) (records : List Record) (parts : List PartData) (q : ℕ) → HasParts rules seed records parts
+    → q < rules.parts → part_of rules seed (records_in records rules.parts q) ≡ Ok (part_at parts q)
 part_of-records_in rules seed records parts q has within =
     let all : ArePartsOf rules seed (partitions_of records rules.parts) parts =
     parts_from-ArePartsOf rules seed 0 (partitions_of records rules.parts) parts has.ends in
@@ -65,7 +66,8 @@ part_of-records_in rules seed records parts q has within =
 has_finished : (rules : Rules) (seed : ℕ) (records : List Record) (parts : List PartData) (q : ℕ) → HasParts rules seed records parts → q < rules.parts
     → 0 < length (records_in records rules.parts q) → HasFinished rules seed (records_in records rules.parts q) (part_at parts q)
 has_finished rules seed records parts q has within some =
-    part_of-some rules seed (records_in records rules.parts q) (part_at parts q) has.ranges.shape some (part_of-records_in rules seed records parts q has within)
+    part_of-some rules seed (records_in records rules.parts q) (part_at parts q) has.ranges.shape some
+    (part_of-records_in rules seed records parts q has within)
 
 -- the numbers of all partitions' keys add up to the number of records
 pub key_count-records : (rules : Rules) (seed : ℕ) (records : List Record) (parts : List PartData) → HasParts rules seed records parts
@@ -139,8 +141,8 @@ map_agree f g [] agree = refl
 map_agree f g (x ∷ xs) agree = λ i. All-head (λ y. f y ≡ g y) x xs agree i ∷ map_agree f g xs (All-tail (λ y. f y ≡ g y) x xs agree) i
 
 -- the numbers within a partition are pairwise different
-numbers_within_differ : (rules : Rules) (seed : ℕ) (records : List Record) (parts : List PartData) (q : ℕ) → HasParts rules seed records parts → q < rules.parts
-    → is_distinct (map (number_within rules seed parts) (records_in records rules.parts q)) ≡ true
+numbers_within_differ : (rules : Rules) (seed : ℕ) (records : List Record) (parts : List PartData) (q : ℕ) → HasParts rules seed records parts
+    → q < rules.parts → is_distinct (map (number_within rules seed parts) (records_in records rules.parts q)) ≡ true
 numbers_within_differ rules seed records parts q has below =
     let rs : List Record = records_in records rules.parts q in
     let here : Record → ℕ = λ r. pair_number rules.shape.map seed (part_at parts q) r.a r.b in
@@ -148,7 +150,8 @@ numbers_within_differ rules seed records parts q has below =
     map_agree (number_within rules seed parts) here rs
     (λ i d within.
     let r : Record = slice_index_or rs i d in
-    let theirs : part_number rules.parts r ≡ q = eqb-true (part_number rules.parts r) q (filter_passes (λ x. part_number rules.parts x == q) records i d within) in
+    let theirs : part_number rules.parts r ≡ q =
+    eqb-true (part_number rules.parts r) q (filter_passes (λ x. part_number rules.parts x == q) records i d within) in
     ap (λ k. pair_number rules.shape.map seed (part_at parts k) r.a r.b) theirs) in
     ap is_distinct same
     ∙ ⊎_elim
