@@ -1,10 +1,9 @@
 pub mod SizeLemmas
 pub mod Counts
 pub mod Placing
-pub mod Numbers
 pub mod Ranks
 pub mod Members
-pub mod OrderLaws
+pub mod Largest
 pub mod Arranged
 pub mod Later
 pub mod Neighbours

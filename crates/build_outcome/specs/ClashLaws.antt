@@ -1,6 +1,6 @@
 -- What the first clash of a list is, for those who know it by its properties.
-use Rattle.std.specs.Prelude.{◌≡◌, ℕ, ◌<◌, ◌≤◌, Bool, true, false, List, length, Option, Some, None, is_some}
-use Rattle.std.proofs.Common.{refl, sym, ap, ◌∙◌, subst, arith}
+use Rattle.std.specs.Prelude.{◌≡◌, ℕ, ◌<◌, true, false, List, length, Option, Some, None, is_some}
+use Rattle.std.proofs.Common.{refl, ap, arith}
 use Rattle.pthash.specs.Search.{least_below, IsLeast}
 use Rattle.pthash.specs.Least.{least_below-none, least_below-found, least_below-is_least}
 use Rattle.build_outcome.specs.Clash.{is_twin, earlier_twin, with_twin, twins_at, clash_of}

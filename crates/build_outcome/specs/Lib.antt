@@ -5,6 +5,12 @@ pub mod Index
 pub mod Mark
 pub mod Values
 pub mod Validity
+pub mod FreeListLaws
+pub mod MarkLaws
 pub mod Attempt
+pub mod PartLaws
+pub mod AttemptParts
+pub mod ValueLaws
+pub mod AttemptLaws
 pub mod Outcome
 pub mod OutcomeLaws

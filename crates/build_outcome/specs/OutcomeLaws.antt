@@ -1,6 +1,6 @@
 -- What is known of an outcome: a repeated key stands twice in the list.
-use Rattle.std.specs.Prelude.{◌≡◌, ℕ, ◌+◌, ◌<◌, Bool, true, false, cond, List, [], ◌∷◌, ◌++◌, length, bytes_eq, Option, Some, None, Result, Ok, Err}
-use Rattle.std.proofs.Common.{refl, sym, ap, ◌∙◌, subst, arith}
+use Rattle.std.specs.Prelude.{◌≡◌, ℕ, Bool, true, false, cond, List, [], ◌∷◌, ◌++◌, bytes_eq, Option, Some, None, Result, Ok, Err}
+use Rattle.std.proofs.Common.{refl, subst}
 use Rattle.std.proofs.lemmas.Slice.Eq.{bytes_eq-Decides}
 use Rattle.build_outcome.specs.declared.Cause.{Cause}
 use Rattle.build_outcome.specs.declared.Cause.TheVariants.{SameHash, Stuck}
@@ -9,7 +9,7 @@ use Rattle.pthash.specs.Records.{records_of}
 use Rattle.build_outcome.specs.Clash.{key_at, clash_of}
 use Rattle.build_outcome.specs.ClashLaws.{IsEarlierIn, clash_of-earlier}
 use Rattle.build_outcome.specs.Attempt.{Rules, Attempt, clashed, stuck, complete, by_parts, unless_clash, attempt_of, parts_from}
-use Rattle.build_outcome.specs.Index.{PartData, IndexData}
+use Rattle.build_outcome.specs.Index.{PartData}
 use Rattle.build_outcome.specs.Outcome.{Outcome, repeated, exhausted, built, after_attempt, outcome_from}
 
 -- two places of the list, the first before the second, hold equal keys

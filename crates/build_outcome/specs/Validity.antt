@@ -1,5 +1,5 @@
 -- What holds of each index that a build gives and that an index file may hold.
-use Rattle.std.specs.Prelude.{◌≡◌, ℕ, ◌+◌, ◌^◌, ◌<◌, ◌≤◌, length, All, None, IfSome}
+use Rattle.std.specs.Prelude.{◌≡◌, ◌^◌, ◌<◌, ◌≤◌, length, All, None, IfSome}
 use Rattle.std.specs.List.Sorted.{IsNonDecreasing}
 use Rattle.pthash.specs.declared.TheConstants.{MAX_KEYS, MAX_PARTITIONS, MAX_PILOTS}
 use Rattle.pthash.specs.declared.Map.TheVariants.{Skewed}

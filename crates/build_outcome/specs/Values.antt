@@ -1,5 +1,6 @@
 -- The number that an index gives a key.
-use Rattle.std.specs.Prelude.{ℕ, ◌+◌, ◌-◌, ◌==◌, nat_lt, List, [], length, take, sum_by, slice_index, slice_index_or, if◌then◌else◌, Option, Some, None, option_map}
+use Rattle.std.specs.Prelude.{ℕ, ◌+◌, ◌-◌, ◌==◌, nat_lt, List, [], length, take, sum_by, slice_index, slice_index_or, if◌then◌else◌, Option}
+use Rattle.std.specs.Prelude.{Some, None, option_map}
 use Rattle.pthash.specs.declared.Map.{Map}
 use Rattle.pthash.specs.Hash.{first_hash, second_hash}
 use Rattle.pthash.specs.Sizes.{bucket_of, partition_of}
