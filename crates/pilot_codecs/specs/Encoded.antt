@@ -22,7 +22,8 @@ encoded_of front (Some back) = record { enc = record { front = code_of front; ba
 -- the front part has its share of the values, and there are few enough
 abbrev pub IsSplit : Part → Option Part → Type 0
 IsSplit front None = length (values_of front) ≤ 2 ^ 30
-IsSplit front (Some back) = (length (values_of front) ≡ front_count_of (length (values_of front ++ values_of back))) × (length (values_of front ++ values_of back) ≤ 2 ^ 30)
+IsSplit front (Some back) = (length (values_of front) ≡ front_count_of (length (values_of front ++ values_of back)))
+    × (length (values_of front ++ values_of back) ≤ 2 ^ 30)
 
 -- each part has a spelling under its code
 abbrev pub FitSplit : Code → Option Code → List ℕ → Type 0

@@ -11,7 +11,19 @@ pub encode_part-requires-clause-small : goal.encode_part-requires-clause-small
 encode_part-requires-clause-small c = all_small c.args.values.now c.requires.small
 
 pub encode_part-requires-in-Some-clause-small : goal.encode_part-requires-in-Some-clause-small
-encode_part-requires-in-Some-clause-small c = omega (arith, all_small c.args.values.now c.requires.small, ap (λ (xs : List ℕ). greatest xs) c.split_at.ensures.front, greatest-take c.front_count.result c.args.values.now)
+encode_part-requires-in-Some-clause-small c =
+    omega (
+      arith,
+      all_small c.args.values.now c.requires.small,
+      ap (λ (xs : List ℕ). greatest xs) c.split_at.ensures.front,
+      greatest-take c.front_count.result c.args.values.now,
+    )
 
 pub encode_part-requires-in-Some-2-clause-small : goal.encode_part-requires-in-Some-2-clause-small
-encode_part-requires-in-Some-2-clause-small c = omega (arith, all_small c.args.values.now c.requires.small, ap (λ (xs : List ℕ). greatest xs) c.split_at.ensures.back, greatest-drop c.front_count.result c.args.values.now)
+encode_part-requires-in-Some-2-clause-small c =
+    omega (
+      arith,
+      all_small c.args.values.now c.requires.small,
+      ap (λ (xs : List ℕ). greatest xs) c.split_at.ensures.back,
+      greatest-drop c.front_count.result c.args.values.now,
+    )
