@@ -51,7 +51,8 @@ code_again codes.Parted at vs rest f = parted_again at vs rest f.0
 code_again codes.Dict at vs rest f = dict_again at vs rest f.0 f.1
 code_again codes.EliasFano at vs rest f = sums_again at vs rest f.0 f.1
 
-front_le : (k : ℕ) → front_count_of k ≤ k
+-- the front part is no longer than the list
+pub front_le : (k : ℕ) → front_count_of k ≤ k
 front_le k = omega arith
 
 pub split_takes : (front : Code) (back : Option Code) (at count : ℕ) (bytes vs rest : List ℕ) → IsBytes bytes → count ≤ 2 ^ 30 →

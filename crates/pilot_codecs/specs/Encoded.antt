@@ -30,6 +30,15 @@ abbrev pub FitSplit : Code → Option Code → List ℕ → Type 0
 FitSplit front None vs = Fits front vs
 FitSplit front (Some back) vs = Fits front (take (front_count_of (length vs)) vs) × Fits back (drop (front_count_of (length vs)) vs)
 
+-- a list that has a spelling under its encoding
+abbrev pub HasText : Encoded → Type 0
+HasText e = FitSplit e.enc.front e.enc.back e.values
+
+-- the parts are those of a list that has a spelling
+pub record ArePilots (front : Part) (back : Option Part) : Type 0 where
+  pub split : IsSplit front back
+  pub fit : HasText (encoded_of front back)
+
 -- the list of that count under an encoding, and the bytes after it
 abbrev pub pair_at : Encoding → ℕ → ℕ → List ℕ → Result (List ℕ × List ℕ) FormFault
 pair_at enc at count bytes = split_at enc.front enc.back at count bytes
