@@ -1,5 +1,6 @@
 -- A list of bits beside the number that it spells.
-use Rattle.std.proofs.Common.{◌≡◌, ℕ, zero, suc, ◌+◌, ◌*◌, ◌-◌, ◌/◌, ◌%◌, ◌^◌, ◌<◌, ◌≤◌, Bool, true, false, cond, eqb, List, [], ◌∷◌, ◌++◌, length, get_or, take, drop, Some, refl, sym, ap, ◌∙◌, inl, inr, arith}
+use Rattle.std.proofs.Common.{◌≡◌, ℕ, zero, suc, ◌+◌, ◌*◌, ◌-◌, ◌/◌, ◌%◌, ◌^◌, ◌<◌, ◌≤◌, Bool, true, false, cond, eqb, List, [], ◌∷◌, ◌++◌, length, get_or}
+use Rattle.std.proofs.Common.{take, drop, Some, refl, sym, ap, ◌∙◌, inl, inr, arith}
 use Rattle.std.specs.Int.{bit_at}
 use Rattle.std.specs.List.{slice_get}
 use Rattle.std.specs.Int.RustNames.{count_ones}
@@ -9,7 +10,7 @@ use Rattle.std.proofs.lemmas.Bool.{cases_eq, eq-eqb, ne_eqb}
 use Rattle.std.proofs.lemmas.Nat.{shr-shr, mod-pow-add}
 use Rattle.std.proofs.lemmas.Nat.Bits.{bit_at_lowest, bit_at-suc}
 use Rattle.std.proofs.lemmas.List.Sums.{sum_by-cons}
-use Rattle.bit_vector.specs.Bits.{bits_of, number_of, ones, places_from}
+use Rattle.bit_vector.specs.Bits.{bits_of, number_of, ones, places_from, places}
 
 pub length-bits_of : (w n : ℕ) → length (bits_of w n) ≡ w
 unfolding bits_of
@@ -73,12 +74,14 @@ bits_of-number_of (true ∷ bs) =
     let m = number_of bs in
     let lowest : (1 + 2 * m) % 2 ≡ 1 = omega arith in
     let rest : (1 + 2 * m) / 2 ≡ m = omega arith in
-    ap (λ (x : ℕ). eqb x 1 ∷ bits_of (length bs) ((1 + 2 * m) / 2)) lowest ∙ ap (λ (x : ℕ). true ∷ bits_of (length bs) x) rest ∙ ap (λ (cs : List Bool). true ∷ cs) (bits_of-number_of bs)
+    ap (λ (x : ℕ). eqb x 1 ∷ bits_of (length bs) ((1 + 2 * m) / 2)) lowest ∙ ap (λ (x : ℕ). true ∷ bits_of (length bs) x) rest
+    ∙ ap (λ (cs : List Bool). true ∷ cs) (bits_of-number_of bs)
 bits_of-number_of (false ∷ bs) =
     let m = number_of bs in
     let lowest : (0 + 2 * m) % 2 ≡ 0 = omega arith in
     let rest : (0 + 2 * m) / 2 ≡ m = omega arith in
-    ap (λ (x : ℕ). eqb x 1 ∷ bits_of (length bs) ((0 + 2 * m) / 2)) lowest ∙ ap (λ (x : ℕ). false ∷ bits_of (length bs) x) rest ∙ ap (λ (cs : List Bool). false ∷ cs) (bits_of-number_of bs)
+    ap (λ (x : ℕ). eqb x 1 ∷ bits_of (length bs) ((0 + 2 * m) / 2)) lowest ∙ ap (λ (x : ℕ). false ∷ bits_of (length bs) x) rest
+    ∙ ap (λ (cs : List Bool). false ∷ cs) (bits_of-number_of bs)
 
 pub number_of-lt : (bs : List Bool) → number_of bs < 2 ^ length bs
 unfolding number_of
@@ -97,7 +100,8 @@ ones-bits_of (suc w) n =
     let e = half-mod n w in
     let low : m % 2 ≡ n % 2 = omega arith in
     let high : m / 2 ≡ n / 2 % 2 ^ w = omega arith in
-    ones-cons (eqb (n % 2) 1) (bits_of w (n / 2)) ∙ ap (λ (x : ℕ). x + ones (bits_of w (n / 2))) (bit_value n ∙ sym low) ∙ ap (λ (x : ℕ). m % 2 + x) (ones-bits_of w (n / 2) ∙ ap count_ones (sym high)) ∙ sym (ones_step m)
+    ones-cons (eqb (n % 2) 1) (bits_of w (n / 2)) ∙ ap (λ (x : ℕ). x + ones (bits_of w (n / 2))) (bit_value n ∙ sym low)
+    ∙ ap (λ (x : ℕ). m % 2 + x) (ones-bits_of w (n / 2) ∙ ap count_ones (sym high)) ∙ sym (ones_step m)
 
 pub get_or-bits_of : (k w n : ℕ) → k < w → get_or (bits_of w n) k false ≡ eqb (bit_at n k) 1
 unfolding bits_of
@@ -111,7 +115,8 @@ length-places_from at [] = refl
 length-places_from at (true ∷ bs) = omega (arith, length-places_from (at + 1) bs, ones-cons true bs)
 length-places_from at (false ∷ bs) = omega (arith, length-places_from (at + 1) bs, ones-cons false bs)
 
-pub slice_get-places_from : (at : ℕ) (bs : List Bool) (p i : ℕ) → p < length bs → get_or bs p false ≡ true → ones (take p bs) ≡ i → slice_get (places_from at bs) i ≡ Some (at + p)
+pub slice_get-places_from : (at : ℕ) (bs : List Bool) (p i : ℕ) → p < length bs → get_or bs p false ≡ true → ones (take p bs) ≡ i →
+    slice_get (places_from at bs) i ≡ Some (at + p)
 unfolding places_from
 slice_get-places_from at [] p i lt set_there before = absurd (omega arith)
 slice_get-places_from at (true ∷ bs) zero zero lt set_there before = ap Some (omega arith)
@@ -122,3 +127,34 @@ slice_get-places_from at (true ∷ bs) (suc p) (suc i) lt set_there before =
     slice_get-places_from (at + 1) bs p i (omega arith) set_there (omega (arith, ones-cons true (take p bs))) ∙ ap Some (omega arith)
 slice_get-places_from at (false ∷ bs) (suc p) i lt set_there before =
     slice_get-places_from (at + 1) bs p i (omega arith) set_there (omega (arith, ones-cons false (take p bs))) ∙ ap Some (omega arith)
+
+-- the place of a one, and the ones up to it
+places_from-step : (at : ℕ) (bs : List Bool) (i p : ℕ) → slice_get (places_from at bs) i ≡ Some p →
+    (at ≤ p) × (p - at < length bs) × (ones (take (p - at + 1) bs) ≡ i + 1)
+unfolding places_from
+places_from-step at [] i p e = absurd cc
+places_from-step at (true ∷ bs) zero p e =
+    let same : at ≡ p = cc in
+    let first : p - at + 1 ≡ 1 = omega (arith, same) in
+    (omega (arith, same), omega (arith, same), ap (λ (k : ℕ). ones (take k (true ∷ bs))) first ∙ ones-cons true [])
+places_from-step at (true ∷ bs) (suc i) p e =
+    let later = places_from-step (at + 1) bs i p e in
+    let next : p - at + 1 ≡ suc (p - (at + 1) + 1) = omega (arith, later.0) in (
+      omega (arith, later.0),
+      omega (arith, later.0, later.1),
+      ap (λ (k : ℕ). ones (take k (true ∷ bs))) next ∙ omega (arith, ones-cons true (take (p - (at + 1) + 1) bs), later.2),
+    )
+places_from-step at (false ∷ bs) i p e =
+    let later = places_from-step (at + 1) bs i p e in
+    let next : p - at + 1 ≡ suc (p - (at + 1) + 1) = omega (arith, later.0) in (
+      omega (arith, later.0),
+      omega (arith, later.0, later.1),
+      ap (λ (k : ℕ). ones (take k (false ∷ bs))) next ∙ omega (arith, ones-cons false (take (p - (at + 1) + 1) bs), later.2),
+    )
+
+-- behind the one with a number stand as many ones more
+pub places-step : (bs : List Bool) (i p : ℕ) → slice_get (places bs) i ≡ Some p → (p < length bs) × (ones (take (p + 1) bs) ≡ i + 1)
+places-step bs i p e =
+    let s = places_from-step 0 bs i p e in
+    let same : p - 0 + 1 ≡ p + 1 = omega arith in
+    (omega (arith, s.1), ap (λ (k : ℕ). ones (take k bs)) (sym same) ∙ s.2)

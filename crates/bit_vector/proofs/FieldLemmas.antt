@@ -1,5 +1,6 @@
 -- Numbers of one width, one after the other, and packed word by word.
-use Rattle.std.proofs.Common.{◌≡◌, ℕ, ◌+◌, ◌*◌, ◌-◌, ◌/◌, ◌%◌, ◌^◌, ◌<◌, ◌≤◌, Bool, true, false, List, [], ◌∷◌, ◌++◌, length, get_or, take, refl, sym, ap, ◌∙◌, append_assoc, subst, arith}
+use Rattle.std.proofs.Common.{◌≡◌, ℕ, ◌+◌, ◌*◌, ◌-◌, ◌/◌, ◌%◌, ◌^◌, ◌<◌, ◌≤◌, Bool, true, false, List, [], ◌∷◌, ◌++◌, length, get_or, take, refl, sym, ap}
+use Rattle.std.proofs.Common.{◌∙◌, append_assoc, subst, arith}
 use Rattle.std.specs.Prelude.{bit_or}
 use Rattle.std.proofs.Math.Nat.{pow-suc, mod-eq_of_lt, mod-add-div}
 use Rattle.std.proofs.lemmas.Nat.{pow_pos, pow-add, mod_below, or_lt, shr_below, shr_split}
@@ -31,7 +32,8 @@ length-bits_of_each w (v ∷ vs) = omega (arith, length-append (bits_of w v) (bi
 bits_of_each-push : (w : ℕ) (vs : List ℕ) (v : ℕ) → bits_of_each w (vs ++ v ∷ []) ≡ bits_of_each w vs ++ bits_of w v
 unfolding bits_of_each
 bits_of_each-push w [] v = append-nil (bits_of w v)
-bits_of_each-push w (x ∷ vs) v = ap (λ (bs : List Bool). bits_of w x ++ bs) (bits_of_each-push w vs v) ∙ sym (append_assoc (bits_of w x) (bits_of_each w vs) (bits_of w v))
+bits_of_each-push w (x ∷ vs) v = ap (λ (bs : List Bool). bits_of w x ++ bs) (bits_of_each-push w vs v)
+    ∙ sym (append_assoc (bits_of w x) (bits_of_each w vs) (bits_of w v))
 
 -- no values have no bits
 pub no_bits : (w : ℕ) → [] ≡ bits_of_each w []
@@ -39,9 +41,11 @@ unfolding bits_of_each
 no_bits w = refl
 
 -- one value of a list more, by its lowest bits
-pub bits_of_each-more : (w : ℕ) (vs : List ℕ) (i : ℕ) → i < length vs → bits_of_each w (take i vs) ++ bits_of w (get_or vs i 0 % 2 ^ w) ≡ bits_of_each w (take (i + 1) vs)
+pub bits_of_each-more : (w : ℕ) (vs : List ℕ) (i : ℕ) → i < length vs →
+    bits_of_each w (take i vs) ++ bits_of w (get_or vs i 0 % 2 ^ w) ≡ bits_of_each w (take (i + 1) vs)
 bits_of_each-more w vs i lt =
-    ap (λ (bs : List Bool). bits_of_each w (take i vs) ++ bs) (bits_of-low w (get_or vs i 0)) ∙ sym (bits_of_each-push w (take i vs) (get_or vs i 0)) ∙ ap (λ (xs : List ℕ). bits_of_each w xs) (sym (take_more vs i 0 lt))
+    ap (λ (bs : List Bool). bits_of_each w (take i vs) ++ bs) (bits_of-low w (get_or vs i 0)) ∙ sym (bits_of_each-push w (take i vs) (get_or vs i 0))
+    ∙ ap (λ (xs : List ℕ). bits_of_each w xs) (sym (take_more vs i 0 lt))
 
 -- bits behind others count from their place on
 number_of-append : (xs ys : List Bool) → number_of (xs ++ ys) ≡ number_of xs + 2 ^ length xs * number_of ys
@@ -67,7 +71,15 @@ pub record IsPacking (before words : List ℕ) (rest used : ℕ) (bits : List Bo
 -- nothing is packed yet
 pub packing_none : (ws : List ℕ) → IsPacking ws ws 0 0 []
 unfolding words_number number_of
-packing_none ws = record { front = []; words_is = sym (append-nil ws); fit = λ i. omega arith; number = omega arith; len = refl; clear = omega arith; below = omega arith }
+packing_none ws = record {
+  front = [];
+  words_is = sym (append-nil ws);
+  fit = λ i. omega arith;
+  number = omega arith;
+  len = refl;
+  clear = omega arith;
+  below = omega arith;
+}
 
 -- the number of the bits once a value more is put behind them
 more_number : (bits : List Bool) (w v : ℕ) → v < 2 ^ w → number_of (bits ++ bits_of w v) ≡ number_of bits + 2 ^ length bits * v
@@ -82,11 +94,13 @@ place : (front bits : List Bool) (k used : ℕ) → 64 * k + used ≡ length bit
 place front bits k used e = sym (pow-add 2 (64 * k) used) ∙ ap (λ (j : ℕ). 2 ^ j) e
 
 -- a value that the rest has room for
-pub packing_within : (before ws : List ℕ) (rest used w v : ℕ) (bits new : List Bool) → IsPacking before ws rest used bits → v < 2 ^ w → used + w < 64 → bits ++ bits_of w v ≡ new
-    → IsPacking before ws (bit_or rest (v * 2 ^ used % 2 ^ 64)) (used + w) new
+pub packing_within : (before ws : List ℕ) (rest used w v : ℕ) (bits new : List Bool) → IsPacking before ws rest used bits → v < 2 ^ w → used + w < 64 →
+    bits ++ bits_of w v ≡ new →
+    IsPacking before ws (bit_or rest (v * 2 ^ used % 2 ^ 64)) (used + w) new
 packing_within before ws rest used w v bits new p fits lt e =
     let larger : 2 ^ w ≤ 2 ^ (64 - used) = Rattle.std.proofs.Math.Nat.pow-le-pow_right (omega arith) (omega arith) in
-    let word : bit_or rest (v * 2 ^ used % 2 ^ 64) ≡ v * 2 ^ used + rest = joined rest v used p.clear p.below ∙ ap (λ (q : ℕ). q * 2 ^ used + rest) (mod-eq_of_lt (omega (arith, larger))) in
+    let word : bit_or rest (v * 2 ^ used % 2 ^ 64) ≡ v * 2 ^ used + rest = joined rest v used p.clear p.below
+    ∙ ap (λ (q : ℕ). q * 2 ^ used + rest) (mod-eq_of_lt (omega (arith, larger))) in
     let k = length p.front in
     let times = ap (λ (q : ℕ). 2 ^ (64 * k) * q) word in
     let at = ap (λ (q : ℕ). q * v) (place bits bits k used p.len) in
@@ -103,8 +117,9 @@ packing_within before ws rest used w v bits new p fits lt e =
     })
 
 -- a value that fills the rest, so that a word is put behind the others
-pub packing_across : (before ws more : List ℕ) (rest used w v left used2 : ℕ) (bits new : List Bool) → IsPacking before ws rest used bits → v < 2 ^ w → v < 2 ^ 64 → 64 ≤ used + w → w ≤ 64 → bits ++ bits_of w v ≡ new
-    → more ≡ ws ++ bit_or rest (v * 2 ^ used % 2 ^ 64) ∷ [] → used2 ≡ used + w - 64 → left ≡ v / 2 ^ (w - used2) → IsPacking before more left used2 new
+pub packing_across : (before ws more : List ℕ) (rest used w v left used2 : ℕ) (bits new : List Bool) → IsPacking before ws rest used bits → v < 2 ^ w →
+    v < 2 ^ 64 → 64 ≤ used + w → w ≤ 64 → bits ++ bits_of w v ≡ new →
+    more ≡ ws ++ bit_or rest (v * 2 ^ used % 2 ^ 64) ∷ [] → used2 ≡ used + w - 64 → left ≡ v / 2 ^ (w - used2) → IsPacking before more left used2 new
 packing_across before ws more rest used w v left used2 bits new p fits small ge wide e m u l =
     let word = bit_or rest (v * 2 ^ used % 2 ^ 64) in
     let low = 64 - used in
@@ -138,9 +153,11 @@ packing_across before ws more rest used w v left used2 bits new p fits small ge 
     })
 
 -- words that the bits fill
-filled : (before front ws : List ℕ) (bits : List Bool) → ws ≡ before ++ front → AreWords front → words_number front ≡ number_of bits → length front ≡ words_for (length bits) → ws ≡ before ++ packed bits
+filled : (before front ws : List ℕ) (bits : List Bool) → ws ≡ before ++ front → AreWords front → words_number front ≡ number_of bits →
+    length front ≡ words_for (length bits) → ws ≡ before ++ packed bits
 filled before front ws bits e fit number count =
-    e ∙ ap (λ (xs : List ℕ). before ++ xs) (sym (words_from-words_number front fit) ∙ ap (λ (j : ℕ). words_from j (words_number front)) count ∙ ap (λ (m : ℕ). words_from (words_for (length bits)) m) number)
+    e ∙ ap (λ (xs : List ℕ). before ++ xs) (sym (words_from-words_number front fit) ∙ ap (λ (j : ℕ). words_from j (words_number front)) count
+    ∙ ap (λ (m : ℕ). words_from (words_for (length bits)) m) number)
 
 -- the bits end with a word
 pub packed_whole_words : (before ws : List ℕ) (rest : ℕ) (bits : List Bool) → IsPacking before ws rest 0 bits → ws ≡ before ++ packed bits
@@ -150,13 +167,15 @@ packed_whole_words before ws rest bits p =
     filled before p.front ws bits p.words_is p.fit number (omega (arith, p.len))
 
 -- the rest is the last word
-pub packed_last_word : (before ws more : List ℕ) (rest used : ℕ) (bits : List Bool) → IsPacking before ws rest used bits → 0 < used → more ≡ ws ++ rest ∷ [] → more ≡ before ++ packed bits
+pub packed_last_word : (before ws more : List ℕ) (rest used : ℕ) (bits : List Bool) → IsPacking before ws rest used bits → 0 < used →
+    more ≡ ws ++ rest ∷ [] → more ≡ before ++ packed bits
 packed_last_word before ws more rest used bits p pos e =
     let in_word : used ≤ 64 = omega (arith, p.below) in
     let most : 2 ^ used ≤ 2 ^ 64 = Rattle.std.proofs.Math.Nat.pow-le-pow_right (omega arith) in_word in
     let small : rest < 2 ^ 64 = omega (arith, p.clear, most) in
     let whole : more ≡ before ++ (p.front ++ rest ∷ []) = e ∙ ap (λ (xs : List ℕ). xs ++ rest ∷ []) p.words_is ∙ append_assoc before p.front (rest ∷ []) in
-    filled before (p.front ++ rest ∷ []) more bits whole (AreWords-push p.front rest p.fit small) (omega (arith, words_number-push p.front rest, p.number)) (omega (arith, length_push p.front rest, p.len, p.below))
+    filled before (p.front ++ rest ∷ []) more bits whole (AreWords-push p.front rest p.fit small) (omega (arith, words_number-push p.front rest, p.number))
+    (omega (arith, length_push p.front rest, p.len, p.below))
 
 -- what stood before still stands
 pub packing_kept : (before words : List ℕ) (rest used : ℕ) (bits : List Bool) → IsPacking before words rest used bits → take (length before) words ≡ before
@@ -172,12 +191,17 @@ pub packed_bits : (bits : List Bool) → ArePackedBits (packed bits) bits
 packed_bits bits =
     let number = words_number-packed bits in
     record {
-      packed_are = record { count = length-packed bits; fit = AreWords-packed bits; clear = subst (λ (m : ℕ). m < 2 ^ length bits) (sym number) (number_of-lt bits) };
+      packed_are = record {
+        count = length-packed bits;
+        fit = AreWords-packed bits;
+        clear = subst (λ (m : ℕ). m < 2 ^ length bits) (sym number) (number_of-lt bits);
+      };
       seen = ap (λ (m : ℕ). bits_of (length bits) m) number ∙ bits_of-number_of bits;
     }
 
 -- the words of fields are packed, and are seen as their bits
-pub fields_packed : (w len : ℕ) (vs ws : List ℕ) → ws ≡ packed (bits_of_each w vs) → len ≡ length vs * w → IsPacked ws len × (bits_of len (words_number ws) ≡ bits_of_each w vs)
+pub fields_packed : (w len : ℕ) (vs ws : List ℕ) → ws ≡ packed (bits_of_each w vs) → len ≡ length vs * w →
+    IsPacked ws len × (bits_of len (words_number ws) ≡ bits_of_each w vs)
 fields_packed w len vs ws e l =
     let bits = bits_of_each w vs in
     let p : ArePackedBits ws bits = subst (λ (xs : List ℕ). ArePackedBits xs bits) (sym e) (packed_bits bits) in

@@ -6,3 +6,4 @@ pub mod ViewLemmas
 pub mod SampleLemmas
 pub mod SetLemmas
 pub mod FieldLemmas
+pub mod CallerLemmas

@@ -30,14 +30,16 @@ div-add-multiple a q j k le =
 low_field : (x z s width : ℕ) → s + width ≤ 64 → (x + 2 ^ 64 * z) / 2 ^ s % 2 ^ width ≡ x / 2 ^ s % 2 ^ width
 low_field x z s width le = ap (λ (m : ℕ). m % 2 ^ width) (div-add-multiple x z 64 s (omega arith)) ∙ mod-add-multiple (x / 2 ^ s) z (64 - s) width (omega arith)
 
-pub words_number-at : (ws : List ℕ) (w : ℕ) → AreWords ws → w < length ws → words_number ws / 2 ^ (64 * w) ≡ get_or ws w 0 + 2 ^ 64 * words_number (drop (w + 1) ws)
+pub words_number-at : (ws : List ℕ) (w : ℕ) → AreWords ws → w < length ws →
+    words_number ws / 2 ^ (64 * w) ≡ get_or ws w 0 + 2 ^ 64 * words_number (drop (w + 1) ws)
 unfolding words_number
 words_number-at ws w h lt = sym (words_number-drop w ws h) ∙ ap words_number (drop_more ws w 0 lt)
 
 pub from_place : (n at : ℕ) → n / 2 ^ at ≡ n / 2 ^ (64 * (at / 64)) / 2 ^ (at % 64)
 from_place n at = ap (λ (j : ℕ). n / 2 ^ j) (omega arith) ∙ sym (shr-shr n (64 * (at / 64)) (at % 64))
 
-pub bits_inside : (ws : List ℕ) (at width : ℕ) → AreWords ws → at / 64 < length ws → at % 64 + width ≤ 64 → get_or ws (at / 64) 0 / 2 ^ (at % 64) % 2 ^ width ≡ words_number ws / 2 ^ at % 2 ^ width
+pub bits_inside : (ws : List ℕ) (at width : ℕ) → AreWords ws → at / 64 < length ws → at % 64 + width ≤ 64 →
+    get_or ws (at / 64) 0 / 2 ^ (at % 64) % 2 ^ width ≡ words_number ws / 2 ^ at % 2 ^ width
 bits_inside ws at width h lt le =
     let e = from_place (words_number ws) at ∙ ap (λ (m : ℕ). m / 2 ^ (at % 64)) (words_number-at ws (at / 64) h lt) in
     sym (ap (λ (m : ℕ). m % 2 ^ width) e ∙ low_field (get_or ws (at / 64) 0) (words_number (drop (at / 64 + 1) ws)) (at % 64) width le)
@@ -52,24 +54,31 @@ shl_dropped y s le =
     e ∙ ap (λ (q : ℕ). q % 2 ^ s * 2 ^ (64 - s) + n % 2 ^ (64 - s)) f ∙ omega (arith, g)
 
 -- the end of one word and the beginning of the next
-two_words : (x y z s width : ℕ) → x < 2 ^ 64 → 0 < s → s < 64 → width ≤ 64 → bit_or (x / 2 ^ s) (y * 2 ^ (64 - s) % 2 ^ 64) % 2 ^ width ≡ (x + 2 ^ 64 * (y + 2 ^ 64 * z)) / 2 ^ s % 2 ^ width
+two_words : (x y z s width : ℕ) → x < 2 ^ 64 → 0 < s → s < 64 → width ≤ 64 →
+    bit_or (x / 2 ^ s) (y * 2 ^ (64 - s) % 2 ^ 64) % 2 ^ width ≡ (x + 2 ^ 64 * (y + 2 ^ 64 * z)) / 2 ^ s % 2 ^ width
 two_words x y z s width xlt pos lt le =
     let p = 2 ^ (64 - s) in
     let whole : 64 ≡ (64 - s) + s = omega arith in
     let low : x / 2 ^ s < p = shr_below x (64 - s) s (subst (λ (j : ℕ). x < 2 ^ j) whole xlt) in
-    let joined : bit_or (x / 2 ^ s) (y * p % 2 ^ 64) ≡ y % 2 ^ s * p + x / 2 ^ s = ap (λ (q : ℕ). bit_or (x / 2 ^ s) q) (shl_dropped y s (omega arith)) ∙ or_comm (x / 2 ^ s) (y % 2 ^ s * p) ∙ or_shifted (y % 2 ^ s) (64 - s) (x / 2 ^ s) low in
+    let joined : bit_or (x / 2 ^ s) (y * p % 2 ^ 64) ≡ y % 2 ^ s * p + x / 2 ^ s = ap (λ (q : ℕ). bit_or (x / 2 ^ s) q) (shl_dropped y s (omega arith))
+    ∙ or_comm (x / 2 ^ s) (y % 2 ^ s * p) ∙ or_shifted (y % 2 ^ s) (64 - s) (x / 2 ^ s) low in
     let shifted : (x + 2 ^ 64 * (y + 2 ^ 64 * z)) / 2 ^ s ≡ x / 2 ^ s + p * (y + 2 ^ 64 * z) = div-add-multiple x (y + 2 ^ 64 * z) 64 s (omega arith) in
     let y_parts : y ≡ y % 2 ^ s + 2 ^ s * (y / 2 ^ s) = sym (Rattle.std.proofs.Math.Nat.mod-add-div y (2 ^ s)) in
     let e1 = ap (λ (q : ℕ). p * q) y_parts in
     let e2 = ap (λ (q : ℕ). q * (y / 2 ^ s)) (power_split 64 s (omega arith)) in
     let sum : x / 2 ^ s + p * (y + 2 ^ 64 * z) ≡ (y % 2 ^ s * p + x / 2 ^ s) + 2 ^ 64 * (y / 2 ^ s + p * z) = omega (arith, e1, e2) in
-    ap (λ (q : ℕ). q % 2 ^ width) joined ∙ sym (ap (λ (q : ℕ). q % 2 ^ width) (shifted ∙ sum) ∙ mod-add-multiple (y % 2 ^ s * p + x / 2 ^ s) (y / 2 ^ s + p * z) 64 width le)
+    ap (λ (q : ℕ). q % 2 ^ width) joined
+    ∙ sym (ap (λ (q : ℕ). q % 2 ^ width) (shifted ∙ sum) ∙ mod-add-multiple (y % 2 ^ s * p + x / 2 ^ s) (y / 2 ^ s + p * z) 64 width le)
 
-pub bits_across : (ws : List ℕ) (at width : ℕ) → AreWords ws → at / 64 + 1 < length ws → 0 < at % 64 → width ≤ 64
-    → bit_or (get_or ws (at / 64) 0 / 2 ^ (at % 64)) (get_or ws (at / 64 + 1) 0 * 2 ^ (64 - at % 64) % 2 ^ 64) % 2 ^ width ≡ words_number ws / 2 ^ at % 2 ^ width
+pub bits_across : (ws : List ℕ) (at width : ℕ) → AreWords ws → at / 64 + 1 < length ws → 0 < at % 64 → width ≤ 64 →
+    bit_or (get_or ws (at / 64) 0 / 2 ^ (at % 64)) (get_or ws (at / 64 + 1) 0 * 2 ^ (64 - at % 64) % 2 ^ 64) % 2 ^ width
+    ≡ words_number ws / 2 ^ at % 2 ^ width
 unfolding words_number
 bits_across ws at width h lt pos le =
     let first_lt : at / 64 < length ws = omega arith in
-    let second : words_number (drop (at / 64 + 1) ws) ≡ get_or ws (at / 64 + 1) 0 + 2 ^ 64 * words_number (drop (at / 64 + 1 + 1) ws) = ap words_number (drop_more ws (at / 64 + 1) 0 lt) in
-    let e = from_place (words_number ws) at ∙ ap (λ (m : ℕ). m / 2 ^ (at % 64)) (words_number-at ws (at / 64) h first_lt ∙ ap (λ (m : ℕ). get_or ws (at / 64) 0 + 2 ^ 64 * m) second) in
-    two_words (get_or ws (at / 64) 0) (get_or ws (at / 64 + 1) 0) (words_number (drop (at / 64 + 1 + 1) ws)) (at % 64) width (h (at / 64)) pos (omega arith) le ∙ sym (ap (λ (m : ℕ). m % 2 ^ width) e)
+    let second : words_number (drop (at / 64 + 1) ws) ≡ get_or ws (at / 64 + 1) 0 + 2 ^ 64 * words_number (drop (at / 64 + 1 + 1) ws) =
+    ap words_number (drop_more ws (at / 64 + 1) 0 lt) in
+    let e = from_place (words_number ws) at
+    ∙ ap (λ (m : ℕ). m / 2 ^ (at % 64)) (words_number-at ws (at / 64) h first_lt ∙ ap (λ (m : ℕ). get_or ws (at / 64) 0 + 2 ^ 64 * m) second) in
+    two_words (get_or ws (at / 64) 0) (get_or ws (at / 64 + 1) 0) (words_number (drop (at / 64 + 1 + 1) ws)) (at % 64) width (h (at / 64)) pos
+    (omega arith) le ∙ sym (ap (λ (m : ℕ). m % 2 ^ width) e)

@@ -1,17 +1,21 @@
 -- Counts of ones over words, and the place of a one.
-use Rattle.std.proofs.Common.{◌≡◌, ℕ, zero, suc, ◌+◌, ◌*◌, ◌-◌, ◌/◌, ◌%◌, ◌^◌, ◌<◌, ◌≤◌, List, [], ◌∷◌, ◌++◌, Bool, length, get_or, take, drop, Option, Some, None, refl, sym, ap, ◌∙◌, subst, inl, inr, arith}
-use Rattle.std.specs.Prelude.{MatchOption}
+use Rattle.std.proofs.Common.{◌≡◌, ℕ, zero, suc, ◌+◌, ◌*◌, ◌-◌, ◌/◌, ◌%◌, ◌^◌, ◌<◌, ◌≤◌, List, [], ◌∷◌, ◌++◌, Bool, length, get_or, take, drop, Option, Some}
+use Rattle.std.proofs.Common.{None, refl, sym, ap, ◌∙◌, subst, inl, inr, arith}
+use Rattle.std.specs.Prelude.{MatchOption, ◌⊎◌}
 use Rattle.std.specs.List.{slice_get}
-use Rattle.std.specs.Int.{bit_at}
+use Rattle.std.specs.Int.{bit_at, trailing_zeros, w64}
 use Rattle.std.specs.Int.RustNames.{count_ones}
 use Rattle.std.proofs.Math.Nat.{mod-one, mod-eq_of_lt, div-eq_of_lt}
 use Rattle.std.proofs.lemmas.Bool.{cases_lt, eq-eqb}
-use Rattle.std.proofs.lemmas.Nat.{mod-pow-add, ones_cat, ones-le, mod_below, pow_pos}
+use Rattle.std.proofs.lemmas.Nat.{mod-pow-add, ones_cat, ones-le, mod_below, pow_pos, shr-shr}
+use Rattle.std.proofs.lemmas.Nat.Bits.{bit_at-suc, bit_at_lowest, bit_at-trailing_zeros}
 use Rattle.std.proofs.lemmas.List.{get_or_append_left, get_or_push, length_push}
 use Rattle.std.proofs.lemmas.List.Sums.{sum_by-cons, sum_by-take-le, sum_by_more}
 use Rattle.bit_vector.specs.Bits.{number_of, words_number, words_from, words_for, packed, ones, places}
 use Rattle.bit_vector.specs.Samples.{all_ones, IsOneAt}
-use Rattle.bit_vector.proofs.BitLemmas.{take-bits_of, bits_of-number_of, number_of-lt, ones-bits_of, get_or-bits_of, length-places_from, slice_get-places_from}
+use Rattle.std.proofs.lemmas.List.{take_all}
+use Rattle.bit_vector.proofs.PackLemmas.{below_from_div}
+use Rattle.bit_vector.proofs.BitLemmas.{half-mod, take-bits_of, bits_of-number_of, number_of-lt, ones-bits_of, get_or-bits_of, length-places_from, slice_get-places_from}
 use Rattle.bit_vector.proofs.WordLemmas.{AreWords, words_number-take, count_ones-words}
 use Rattle.bit_vector.proofs.ReadLemmas.{words_number-at, mod-add-multiple, bits_inside}
 
@@ -44,24 +48,28 @@ AreWords-take (suc k) (w ∷ ws) h (suc i) = AreWords-take k ws (AreWords-rest w
 word_at : (ws : List ℕ) (w s : ℕ) → AreWords ws → 64 * w + s ≤ 64 * length ws → s < 64 → words_number ws / 2 ^ (64 * w) % 2 ^ s ≡ get_or ws w 0 % 2 ^ s
 word_at ws w s h le lt =
     elim (cases_lt w (length ws)) [
-      | inl within ↦ ap (λ (m : ℕ). m % 2 ^ s) (words_number-at ws w h within) ∙ mod-add-multiple (get_or ws w 0) (words_number (drop (w + 1) ws)) 64 s (omega arith)
+      | inl within ↦ ap (λ (m : ℕ). m % 2 ^ s) (words_number-at ws w h within)
+          ∙ mod-add-multiple (get_or ws w 0) (words_number (drop (w + 1) ws)) 64 s (omega arith)
       | inr past ↦
           let none : s ≡ 0 = omega arith in
           rw none (mod-one (words_number ws / 2 ^ (64 * w)) ∙ sym (mod-one (get_or ws w 0)))
     ]
 
-pub ones_below_place : (ws : List ℕ) (at : ℕ) → AreWords ws → at ≤ 64 * length ws → count_ones (words_number ws % 2 ^ at) ≡ all_ones (take (at / 64) ws) + count_ones (get_or ws (at / 64) 0 % 2 ^ (at % 64))
+pub ones_below_place : (ws : List ℕ) (at : ℕ) → AreWords ws → at ≤ 64 * length ws →
+    count_ones (words_number ws % 2 ^ at) ≡ all_ones (take (at / 64) ws) + count_ones (get_or ws (at / 64) 0 % 2 ^ (at % 64))
 ones_below_place ws at h le =
     let w = at / 64 in
     let s = at % 64 in
     let n = words_number ws in
     let whole : at ≡ s + 64 * w = omega arith in
     let high : count_ones (n / 2 ^ (64 * w) % 2 ^ s) ≡ count_ones (get_or ws w 0 % 2 ^ s) = ap count_ones (word_at ws w s h (omega arith) (omega arith)) in
-    let low : count_ones (n % 2 ^ (64 * w)) ≡ all_ones (take w ws) = ap count_ones (sym (words_number-take w ws h)) ∙ count_ones-words (take w ws) (AreWords-take w ws h) in
+    let low : count_ones (n % 2 ^ (64 * w)) ≡ all_ones (take w ws) = ap count_ones (sym (words_number-take w ws h))
+    ∙ count_ones-words (take w ws) (AreWords-take w ws h) in
     ap (λ (j : ℕ). count_ones (n % 2 ^ j)) whole ∙ ones_cut n s (64 * w) ∙ omega (arith, high, low)
 
 -- the place of a one among the words, from its place in its word
-pub one_among : (ws : List ℕ) (w q r i p : ℕ) → AreWords ws → w < length ws → q < 64 → IsOneAt (get_or ws w 0) r q → all_ones (take w ws) + r ≡ i → p ≡ 64 * w + q → IsOneAt (words_number ws) i p
+pub one_among : (ws : List ℕ) (w q r i p : ℕ) → AreWords ws → w < length ws → q < 64 → IsOneAt (get_or ws w 0) r q → all_ones (take w ws) + r ≡ i →
+    p ≡ 64 * w + q → IsOneAt (words_number ws) i p
 one_among ws w q r i p h lt less here e at =
     let word : p / 64 ≡ w = omega arith in
     let bit : p % 64 ≡ q = omega arith in
@@ -74,7 +82,8 @@ pub record IsSoFar (words counts : List ℕ) (at : ℕ) : Type 0 where
   pub len : length counts ≡ (at + 7) / 8
   pub before : (b : ℕ) → b < length counts → get_or counts b 0 ≡ all_ones (take (8 * b) words)
 
-pub count_pushed : (words counts new : List ℕ) (at total : ℕ) → at % 8 ≡ 0 → IsSoFar words counts at → total ≡ all_ones (take at words) → new ≡ counts ++ total ∷ [] → IsSoFar words new (at + 1)
+pub count_pushed : (words counts new : List ℕ) (at total : ℕ) → at % 8 ≡ 0 → IsSoFar words counts at → total ≡ all_ones (take at words) →
+    new ≡ counts ++ total ∷ [] → IsSoFar words new (at + 1)
 count_pushed words counts new at total even so_far t e =
     let longer = length_push counts total in
     let more : IsSoFar words (counts ++ total ∷ []) (at + 1) = record {
@@ -115,7 +124,8 @@ words_number-words_from : (k n : ℕ) → words_number (words_from k n) ≡ n % 
 unfolding words_number words_from
 words_number-words_from zero n = sym (mod-one n)
 words_number-words_from (suc k) n =
-    let parts : n % 2 ^ (64 * suc k) ≡ (n / 2 ^ 64 % 2 ^ (64 * k)) * 2 ^ 64 + n % 2 ^ 64 = ap (λ (j : ℕ). n % 2 ^ j) (omega arith) ∙ mod-pow-add n (64 * k) 64 in
+    let parts : n % 2 ^ (64 * suc k) ≡ (n / 2 ^ 64 % 2 ^ (64 * k)) * 2 ^ 64 + n % 2 ^ 64 = ap (λ (j : ℕ). n % 2 ^ j) (omega arith)
+    ∙ mod-pow-add n (64 * k) 64 in
     omega (arith, parts, words_number-words_from k (n / 2 ^ 64))
 
 pub words_number-packed : (bits : List Bool) → words_number (packed bits) ≡ number_of bits
@@ -125,7 +135,8 @@ words_number-packed bits =
 
 pub ones-take : (bits : List Bool) (at : ℕ) → at ≤ length bits → ones (take at bits) ≡ count_ones (number_of bits % 2 ^ at)
 ones-take bits at le =
-    ap (λ (bs : List Bool). ones (take at bs)) (sym (bits_of-number_of bits)) ∙ ap ones (take-bits_of at (length bits) (number_of bits) le) ∙ ones-bits_of at (number_of bits)
+    ap (λ (bs : List Bool). ones (take at bs)) (sym (bits_of-number_of bits)) ∙ ap ones (take-bits_of at (length bits) (number_of bits) le)
+    ∙ ones-bits_of at (number_of bits)
 
 pub all_ones-packed : (bits : List Bool) → all_ones (packed bits) ≡ ones bits
 all_ones-packed bits =
@@ -153,9 +164,94 @@ one_found : (bits : List Bool) (i p : ℕ) → IsOneAt (number_of bits) i p → 
 one_found bits i p at =
     let n = number_of bits in
     let lt : p < length bits = within_bits n (length bits) p (number_of-lt bits) at.one in
-    let there = ap (λ (bs : List Bool). get_or bs p Rattle.std.proofs.Common.false) (sym (bits_of-number_of bits)) ∙ get_or-bits_of p (length bits) n lt ∙ eq-eqb (bit_at n p) 1 at.one in
+    let there = ap (λ (bs : List Bool). get_or bs p Rattle.std.proofs.Common.false) (sym (bits_of-number_of bits)) ∙ get_or-bits_of p (length bits) n lt
+    ∙ eq-eqb (bit_at n p) 1 at.one in
     slice_get-places_from 0 bits p i lt there (ones-take bits p (omega arith) ∙ at.before) ∙ ap Some (omega arith)
 
-pub select_is : (bits : List Bool) (i : ℕ) (r : Option ℕ) → MatchOption r (all_ones (packed bits) ≤ i) (λ p. IsOneAt (words_number (packed bits)) i p) → r ≡ slice_get (places bits) i
+pub select_is : (bits : List Bool) (i : ℕ) (r : Option ℕ) → MatchOption r (all_ones (packed bits) ≤ i) (λ p. IsOneAt (words_number (packed bits)) i p) →
+    r ≡ slice_get (places bits) i
 select_is bits i None h = sym (slice_get-past (places bits) i (omega (arith, length-places_from 0 bits, all_ones-packed bits, h)))
 select_is bits i (Some p) h = sym (one_found bits i p (subst (λ (n : ℕ). IsOneAt n i p) (words_number-packed bits) h))
+
+-- ---- the next one
+
+-- a number with no bit below a place
+none_below : (n t : ℕ) → ((i : ℕ) → i < t → bit_at n i ≡ 0) → n % 2 ^ t ≡ 0
+none_below n zero h = mod-one n
+none_below n (suc t) h =
+    let low : n % 2 ≡ 0 = sym (bit_at_lowest n) ∙ h 0 (omega arith) in
+    let high : n / 2 % 2 ^ t ≡ 0 = none_below (n / 2) t (λ i lt. sym (bit_at-suc n i) ∙ h (suc i) (omega arith)) in
+    half-mod n t ∙ omega (arith, low, high)
+
+-- the lowest one of a word is its first
+pub lowest_one : (word : ℕ) → 0 < word → word < 2 ^ 64 → (trailing_zeros w64 word < 64) × IsOneAt word 0 (trailing_zeros w64 word)
+lowest_one word some fits =
+    let lowest = bit_at-trailing_zeros w64 word some fits in
+    let before = ap count_ones (none_below word (trailing_zeros w64 word) lowest.2) ∙ no_ones in
+    (lowest.0, record { one = lowest.1; before = before })
+
+-- the first one above a place of a word
+pub one_above : (word s q : ℕ) → IsOneAt (word / 2 ^ s) 0 q → IsOneAt word (count_ones (word % 2 ^ s)) (s + q)
+one_above word s q h =
+    let turned : s + q ≡ q + s = omega arith in
+    record {
+      one = ap (λ (m : ℕ). m % 2) (sym (shr-shr word s q)) ∙ h.one;
+      before = ap (λ (j : ℕ). count_ones (word % 2 ^ j)) turned ∙ omega (arith, ones_cut word q s, h.before);
+    }
+
+-- a one of a word is below its digits
+pub one_within : (word i q : ℕ) → word < 2 ^ 64 → IsOneAt word i q → q < 64
+one_within word i q fits h = within_bits word 64 q fits h.one
+
+-- the ones before a place of which nothing is left in its word
+pub ones_passed : (ws : List ℕ) (at : ℕ) → AreWords ws → at / 64 < length ws → get_or ws (at / 64) 0 / 2 ^ (at % 64) ≡ 0 →
+    count_ones (words_number ws % 2 ^ at) ≡ all_ones (take (at / 64 + 1) ws)
+ones_passed ws at h lt none =
+    let w = at / 64 in
+    let small : get_or ws w 0 % 2 ^ (at % 64) ≡ get_or ws w 0 = mod-eq_of_lt (below_from_div (get_or ws w 0) (at % 64) none) in
+    omega (arith, ones_below_place ws at h (omega arith), ap count_ones small, all_ones-more ws w lt)
+
+-- all ones are before the end
+pub ones_all : (ws : List ℕ) (at : ℕ) → AreWords ws → at ≤ 64 * length ws → length ws ≤ at / 64 → all_ones ws ≡ count_ones (words_number ws % 2 ^ at)
+ones_all ws at h le past =
+    let place : at ≡ 64 * length ws = omega arith in
+    let count : at / 64 ≡ length ws = omega arith in
+    let clear : at % 64 ≡ 0 = omega arith in
+    let above = ap (λ (j : ℕ). count_ones (get_or ws (at / 64) 0 % 2 ^ j)) clear ∙ ap count_ones (mod-one (get_or ws (at / 64) 0)) ∙ no_ones in
+    let whole = ap (λ (k : ℕ). all_ones (take k ws)) count ∙ ap all_ones (take_all (length ws) ws (omega arith)) in
+    omega (arith, ones_below_place ws at h le, above, whole)
+
+-- ---- one half of a word
+
+-- bits that are passed, with the ones among them, so that a one is left in what follows
+pub record IsPassed (rest left span half skip ones : ℕ) : Type 0 where
+  pub ones_are : ones ≡ count_ones (rest % 2 ^ skip)
+  pub within : skip ≤ half
+  pub enough : ones ≤ left
+  pub here : left < count_ones (rest % 2 ^ (span - half + skip))
+
+-- the lower half is passed where the one is not in it
+pub half_passed : (rest left span low : ℕ) (r : ℕ × ℕ) → 1 < span → low ≡ count_ones (rest % 2 ^ (span / 2)) → left < count_ones (rest % 2 ^ span) →
+    ((left < low) × (r ≡ (0, 0))) ⊎ ((low ≤ left) × (r ≡ (span / 2, low))) → IsPassed rest left span (span / 2) r.0 r.1
+half_passed rest left span low r some low_is here choice =
+    let half = span / 2 in
+    elim choice [
+      | inl p ↦
+          let parts : span - half + 0 ≡ (span - half - half) + half = omega arith in
+          let more = ap (λ (j : ℕ). count_ones (rest % 2 ^ j)) parts ∙ ones_cut rest (span - half - half) half in
+          subst (λ (q : ℕ × ℕ). IsPassed rest left span half q.0 q.1) (sym p.1) (record {
+            ones_are = sym (ap count_ones (mod-one rest) ∙ no_ones);
+            within = omega arith;
+            enough = omega arith;
+            here = omega (arith, more, low_is, p.0);
+          })
+      | inr p ↦
+          let parts : span - half + half ≡ span = omega arith in
+          let same = ap (λ (j : ℕ). count_ones (rest % 2 ^ j)) parts in
+          subst (λ (q : ℕ × ℕ). IsPassed rest left span half q.0 q.1) (sym p.1) (record {
+            ones_are = low_is;
+            within = omega arith;
+            enough = p.0;
+            here = omega (arith, same, here);
+          })
+    ]

@@ -1,5 +1,6 @@
 -- One bit that is set, and words that have none.
-use Rattle.std.proofs.Common.{◌≡◌, ℕ, zero, suc, ◌+◌, ◌*◌, ◌/◌, ◌%◌, ◌^◌, ◌<◌, ◌≤◌, Bool, true, false, cond, eqb, List, [], ◌∷◌, length, get_or, set, replicate, refl, sym, ap, ◌∙◌, subst, inl, inr, arith}
+use Rattle.std.proofs.Common.{◌≡◌, ℕ, zero, suc, ◌+◌, ◌*◌, ◌/◌, ◌%◌, ◌^◌, ◌<◌, ◌≤◌, Bool, true, false, cond, eqb, List, [], ◌∷◌, length, get_or, set}
+use Rattle.std.proofs.Common.{replicate, refl, sym, ap, ◌∙◌, subst, inl, inr, arith}
 use Rattle.std.specs.Prelude.{bit_or}
 use Rattle.std.specs.Int.{bit_at}
 use Rattle.std.specs.Int.Bits.{or_add_and}
@@ -39,8 +40,8 @@ one_if m lt =
     ]
 
 -- the words once a bit is set are those of the bits with this one set
-set_word : (ws : List ℕ) (len at : ℕ) → IsPacked ws len → at < len
-    → words_number (set ws (at / 64) (bit_or (get_or ws (at / 64) 0) (2 ^ (at % 64)))) ≡ number_of (set (bits_of len (words_number ws)) at true)
+set_word : (ws : List ℕ) (len at : ℕ) → IsPacked ws len → at < len →
+    words_number (set ws (at / 64) (bit_or (get_or ws (at / 64) 0) (2 ^ (at % 64)))) ≡ number_of (set (bits_of len (words_number ws)) at true)
 set_word ws len at p lt =
     let k = at / 64 in
     let s = at % 64 in
@@ -51,7 +52,8 @@ set_word ws len at p lt =
     let b = bit_at x s in
     let in_words : k < length ws = omega (arith, p.count) in
     let here : bit_at x s ≡ bit_at n at = bits_inside ws at 1 p.fit in_words (omega arith) in
-    let bit : cond (get_or bs at false) 1 0 ≡ b = ap (λ (c : Bool). cond c 1 0) (get_or-bits_of at len n lt) ∙ one_if (bit_at n at) (bit_at-lt n at) ∙ sym here in
+    let bit : cond (get_or bs at false) 1 0 ≡ b = ap (λ (c : Bool). cond c 1 0) (get_or-bits_of at len n lt) ∙ one_if (bit_at n at) (bit_at-lt n at)
+    ∙ sym here in
     let place : 2 ^ (64 * k) * 2 ^ s ≡ 2 ^ at = sym (pow-add 2 (64 * k) s) ∙ ap (λ (j : ℕ). 2 ^ j) (omega arith) in
     let whole : number_of bs ≡ n = number_of-bits_of len n ∙ mod-eq_of_lt p.clear in
     let words = words_number-set ws k y in_words in
@@ -86,13 +88,15 @@ bit_set ws len at p lt =
     }
 
 -- the same of what `|=` writes
-pub bit_written : (ws : List ℕ) (len at x : ℕ) → IsPacked ws len → at < len → x ≡ get_or ws (at / 64) x → IsSet ws (set ws (at / 64) (bit_or x (1 * 2 ^ (at % 64) % 2 ^ 64))) len at
+pub bit_written : (ws : List ℕ) (len at x : ℕ) → IsPacked ws len → at < len → x ≡ get_or ws (at / 64) x →
+    IsSet ws (set ws (at / 64) (bit_or x (1 * 2 ^ (at % 64) % 2 ^ 64))) len at
 bit_written ws len at x p lt e =
     let k = at / 64 in
     let in_words : k < length ws = omega (arith, p.count) in
     let x-is : x ≡ get_or ws k 0 = get_or_read ws k x in_words e 0 in
     let one : 1 * 2 ^ (at % 64) % 2 ^ 64 ≡ 2 ^ (at % 64) = one_shl (at % 64) 64 (omega arith) in
-    subst (λ (m : ℕ). IsSet ws (set ws k (bit_or x m)) len at) (sym one) (subst (λ (m : ℕ). IsSet ws (set ws k (bit_or m (2 ^ (at % 64)))) len at) (sym x-is) (bit_set ws len at p lt))
+    subst (λ (m : ℕ). IsSet ws (set ws k (bit_or x m)) len at) (sym one) (subst (λ (m : ℕ). IsSet ws (set ws k (bit_or m (2 ^ (at % 64)))) len at) (sym x-is)
+    (bit_set ws len at p lt))
 
 -- clear words spell 0
 words_number-zeros : (n : ℕ) → words_number (replicate n 0) ≡ 0

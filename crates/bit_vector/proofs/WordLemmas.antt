@@ -39,7 +39,8 @@ words_number-drop (suc k) [] h = omega (arith, Rattle.std.proofs.Math.Nat.zero-d
 words_number-drop (suc k) (x ∷ xs) h =
     let n = words_number xs in
     let first : (x + 2 ^ 64 * n) / 2 ^ 64 ≡ n = omega (arith, h 0) in
-    words_number-drop k xs (AreWords-rest x xs h) ∙ ap (λ (m : ℕ). m / 2 ^ (64 * k)) (sym first) ∙ shr-shr (x + 2 ^ 64 * n) 64 (64 * k) ∙ ap (λ (j : ℕ). (x + 2 ^ 64 * n) / 2 ^ j) (omega arith)
+    words_number-drop k xs (AreWords-rest x xs h) ∙ ap (λ (m : ℕ). m / 2 ^ (64 * k)) (sym first) ∙ shr-shr (x + 2 ^ 64 * n) 64 (64 * k)
+    ∙ ap (λ (j : ℕ). (x + 2 ^ 64 * n) / 2 ^ j) (omega arith)
 
 pub words_number-take : (k : ℕ) (xs : List ℕ) → AreWords xs → words_number (take k xs) ≡ words_number xs % 2 ^ (64 * k)
 unfolding words_number
@@ -50,8 +51,10 @@ words_number-take (suc k) (x ∷ xs) h =
     let m = x + 2 ^ 64 * n in
     let high : m / 2 ^ 64 ≡ n = omega (arith, h 0) in
     let low : m % 2 ^ 64 ≡ x = omega (arith, h 0) in
-    let parts : m % 2 ^ (64 * suc k) ≡ (m / 2 ^ 64 % 2 ^ (64 * k)) * 2 ^ 64 + m % 2 ^ 64 = ap (λ (j : ℕ). m % 2 ^ j) (omega arith) ∙ mod-pow-add m (64 * k) 64 in
-    let inner : m / 2 ^ 64 % 2 ^ (64 * k) ≡ words_number (take k xs) = ap (λ (j : ℕ). j % 2 ^ (64 * k)) high ∙ sym (words_number-take k xs (AreWords-rest x xs h)) in
+    let parts : m % 2 ^ (64 * suc k) ≡ (m / 2 ^ 64 % 2 ^ (64 * k)) * 2 ^ 64 + m % 2 ^ 64 = ap (λ (j : ℕ). m % 2 ^ j) (omega arith)
+    ∙ mod-pow-add m (64 * k) 64 in
+    let inner : m / 2 ^ 64 % 2 ^ (64 * k) ≡ words_number (take k xs) = ap (λ (j : ℕ). j % 2 ^ (64 * k)) high
+    ∙ sym (words_number-take k xs (AreWords-rest x xs h)) in
     omega (arith, parts, inner, low)
 
 pub words_number-set : (xs : List ℕ) (k y : ℕ) → k < length xs → words_number (set xs k y) + get_or xs k 0 * 2 ^ (64 * k) ≡ words_number xs + y * 2 ^ (64 * k)
@@ -76,7 +79,8 @@ words_from-words_number (x ∷ xs) h =
     let n = words_number xs in
     let low : (x + 2 ^ 64 * n) % 2 ^ 64 ≡ x = omega (arith, h 0) in
     let high : (x + 2 ^ 64 * n) / 2 ^ 64 ≡ n = omega (arith, h 0) in
-    ap (λ (q : ℕ). q ∷ words_from (length xs) ((x + 2 ^ 64 * n) / 2 ^ 64)) low ∙ ap (λ (q : ℕ). x ∷ words_from (length xs) q) high ∙ ap (λ (ws : List ℕ). x ∷ ws) (words_from-words_number xs (AreWords-rest x xs h))
+    ap (λ (q : ℕ). q ∷ words_from (length xs) ((x + 2 ^ 64 * n) / 2 ^ 64)) low ∙ ap (λ (q : ℕ). x ∷ words_from (length xs) q) high
+    ∙ ap (λ (ws : List ℕ). x ∷ ws) (words_from-words_number xs (AreWords-rest x xs h))
 
 pub count_ones-words : (xs : List ℕ) → AreWords xs → count_ones (words_number xs) ≡ sum_by count_ones xs
 unfolding words_number

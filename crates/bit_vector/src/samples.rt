@@ -1,4 +1,4 @@
-ghost use Rattle.std.specs.Prelude.{◌≡◌, ℕ, ◌+◌, ◌*◌, ◌%◌, ◌^◌, ◌<◌, ◌≤◌, length, take, slice_index, IfOk, MatchOption};
+ghost use Rattle.std.specs.Prelude.{◌≡◌, ℕ, ◌+◌, ◌*◌, ◌%◌, ◌^◌, ◌<◌, ◌≤◌, ◌⊎◌, length, take, slice_index, IfOk, MatchOption};
 ghost use Rattle.std.specs.Int.RustNames.{count_ones};
 ghost use Rattle.bit_vector.specs.Bits.{words_number};
 ghost use Rattle.bit_vector.specs.Samples.{all_ones, IsCounted, IsHinted, IsOneAt};
@@ -133,7 +133,14 @@ fn word_of_one(words: &[u64], from: usize, i: u64) -> (usize, u32)
     unreachable!()
 }
 
-// The place of a one in a word, by halves.
+// How many bits to pass, and the ones among them: the lower half where that one is not in it.
+fn passed(left: u32, low: u32, half: u32) -> (u32, u32)
+    ensures { ((left < low) × (result ≡ (0, 0))) ⊎ ((low ≤ left) × (result ≡ (half, low))) }
+{
+    if left < low { (0, 0) } else { (half, low) }
+}
+
+// The place of a one in a word, by halves and without a branch.
 fn place_in(word: u64, i: u32) -> u32
     requires { i < count_ones word }
     ensures within { result < 64 }
@@ -145,15 +152,11 @@ fn place_in(word: u64, i: u32) -> u32
     let mut span = 64;
     while span > 1 {
         let half = span / 2;
-        let low = low_bits(rest, half).count_ones();
-        if left < low {
-            span = half;
-        } else {
-            left -= low;
-            rest >>= half;
-            place += half;
-            span -= half;
-        }
+        let (skip, ones) = passed(left, low_bits(rest, half).count_ones(), half);
+        left -= ones;
+        rest >>= skip;
+        place += skip;
+        span -= half;
     }
     place
 }
@@ -174,4 +177,48 @@ pub fn place_of(words: &[u64], counts: &[u64], hints: &[usize], i: u64) -> Optio
     let block = block_before(counts, first, end, i);
     let (word, left) = word_of_one(words, BLOCK * block, i - counts[block]);
     Some(64 * word as u64 + u64::from(place_in(words[word], left)))
+}
+
+// The place of the lowest one of a word.
+fn lowest_in(word: u64) -> u32
+    requires { 0 < word }
+    ensures within { result < 64 }
+    ensures place { IsOneAt word 0 result }
+{
+    word.trailing_zeros()
+}
+
+// The place of the first one in the words from one on.
+fn first_one(words: &[u64], from: usize) -> Option<u64>
+    requires from_in { from ≤ length words.now }
+    requires most { length words.now ≤ 2 ^ 36 }
+    ensures { MatchOption result (all_ones words.now ≤ all_ones (take from words.now))
+        (λ p. IsOneAt (words_number words.now) (all_ones (take from words.now)) p) }
+{
+    for at in from..words.len() {
+        let word = words[at];
+        if word != 0 {
+            return Some(64 * at as u64 + u64::from(lowest_in(word)));
+        }
+    }
+    None
+}
+
+/// The place of the first one from a place on, `None` if there is none.
+pub fn next_one(words: &[u64], from: u64) -> Option<u64>
+    requires within { from ≤ 64 * length words.now }
+    requires most { length words.now ≤ 2 ^ 36 }
+    ensures { MatchOption result
+        (all_ones words.now ≤ count_ones (words_number words.now % 2 ^ from))
+        (λ p. IsOneAt (words_number words.now) (count_ones (words_number words.now % 2 ^ from)) p) }
+{
+    let first = (from / 64) as usize;
+    if first >= words.len() {
+        return None;
+    }
+    let rest = words[first] >> (from % 64);
+    if rest != 0 {
+        return Some(from + u64::from(lowest_in(rest)));
+    }
+    first_one(words, first + 1)
 }

@@ -3,7 +3,7 @@ ghost use Rattle.std.specs.List.{slice_get};
 ghost use Rattle.bit_vector.specs.Bits.{ones, places};
 
 use crate::bits::{BitVec, NoMemory};
-use crate::samples::{counts_of, hints_of, ones_below, place_of};
+use crate::samples::{counts_of, hints_of, next_one, ones_below, place_of};
 use std::alloc::Global;
 use std::marker::Model;
 
@@ -47,6 +47,14 @@ impl Selector {
         ensures { result ≡ slice_get (places self.now) i }
     {
         place_of(self.bits.words(), &self.counts, &self.hints, i)
+    }
+
+    /// The place of the first one from a place on: after the one with a number, the next one.
+    pub fn next1(&self, from: u64) -> Option<u64>
+        requires { from ≤ length self.now }
+        ensures { result ≡ slice_get (places self.now) (ones (take from self.now)) }
+    {
+        next_one(self.bits.words(), from)
     }
 
     /// How many ones stand below a place.

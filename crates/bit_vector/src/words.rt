@@ -87,8 +87,24 @@ pub fn append(
     Ok(())
 }
 
-/// Appends the lowest bits of each value, packed from a new word on; on want of memory a part of them.
+/// Appends the lowest bits of each value, packed from a new word on; on want of memory none.
 pub fn append_fields(words: &mut Vec<u64>, values: &[u64], width: u32) -> Result<(), NoMemory>
+    requires { width ≤ 64 }
+    ensures ok { OnOk result
+        (words.new.items ≡ words.old.items ++ packed (bits_of_each width values.now)) }
+    ensures kept { take (length words.old.items) words.new.items ≡ words.old.items }
+    ensures err { OnErr result (words.new.items ≡ words.old.items) }
+{
+    let before = words.len();
+    let appended = push_fields(words, values, width);
+    if appended.is_err() {
+        words.truncate(before);
+    }
+    appended
+}
+
+// The same; on want of memory a part of them.
+fn push_fields(words: &mut Vec<u64>, values: &[u64], width: u32) -> Result<(), NoMemory>
     requires { width ≤ 64 }
     ensures ok { OnOk result
         (words.new.items ≡ words.old.items ++ packed (bits_of_each width values.now)) }

@@ -1,5 +1,6 @@
 -- Bits that are made of a list that rises.
-use Rattle.std.proofs.Common.{◌≡◌, ℕ, zero, suc, ◌+◌, ◌*◌, ◌/◌, ◌^◌, ◌<◌, ◌≤◌, Bool, true, false, eqb, List, [], ◌∷◌, ◌++◌, length, get_or, take, set, replicate, Result, Ok, Err, refl, sym, ap, ◌∙◌, inl, inr, arith}
+use Rattle.std.proofs.Common.{◌≡◌, ℕ, zero, suc, ◌+◌, ◌*◌, ◌/◌, ◌^◌, ◌<◌, ◌≤◌, Bool, true, false, eqb, List, [], ◌∷◌, ◌++◌, length, get_or, take, set}
+use Rattle.std.proofs.Common.{replicate, Result, Ok, Err, refl, sym, ap, ◌∙◌, inl, inr, arith}
 use Rattle.std.specs.Prelude.{OnOk, ◌||◌}
 use Rattle.std.proofs.lemmas.Bool.{cases_lt, cases_Bool, eq-eqb, ne_eqb}
 use Rattle.std.proofs.lemmas.List.{nil_from_length, take_more, length-take-le}
@@ -38,7 +39,8 @@ among_others n p ps ne = is_among-push n ps p ∙ ap (λ (b : Bool). is_among n 
 marks-past : (at n p : ℕ) (ps : List ℕ) → p < at → marks at n (ps ++ p ∷ []) ≡ marks at n ps
 unfolding marks
 marks-past at zero p ps lt = refl
-marks-past at (suc n) p ps lt = rw (among_others at p ps (λ e. omega (arith, e, lt))) (ap (λ (bs : List Bool). is_among at ps ∷ bs) (marks-past (at + 1) n p ps (omega arith)))
+marks-past at (suc n) p ps lt =
+    rw (among_others at p ps (λ e. omega (arith, e, lt))) (ap (λ (bs : List Bool). is_among at ps ∷ bs) (marks-past (at + 1) n p ps (omega arith)))
 
 -- one place more
 marks-set : (at n k : ℕ) (ps : List ℕ) → k < n → set (marks at n ps) k true ≡ marks at n (ps ++ (at + k) ∷ [])
@@ -74,8 +76,9 @@ pub place_within : (w : ℕ) (vs : List ℕ) (i : ℕ) → rises 0 vs ≡ true �
 place_within w vs i h lt = omega (arith, lt, shr-mono (get_or vs i 0) (last_of 0 vs) w (get_or-le-last 0 vs i h lt))
 
 -- one value more
-pub high_step : (w n : ℕ) (vs : List ℕ) (i : ℕ) (high : List Bool) → i < length vs → get_or vs i 0 / 2 ^ w + i < n → high ≡ marks 0 n (high_places w 0 (take i vs))
-    → set high (get_or vs i 0 / 2 ^ w + i) true ≡ marks 0 n (high_places w 0 (take (i + 1) vs))
+pub high_step : (w n : ℕ) (vs : List ℕ) (i : ℕ) (high : List Bool) → i < length vs → get_or vs i 0 / 2 ^ w + i < n →
+    high ≡ marks 0 n (high_places w 0 (take i vs)) →
+    set high (get_or vs i 0 / 2 ^ w + i) true ≡ marks 0 n (high_places w 0 (take (i + 1) vs))
 high_step w n vs i high lt within e =
     let v = get_or vs i 0 in
     let p = v / 2 ^ w + i in
@@ -91,8 +94,9 @@ on_ok-map (Ok x) A B f a = f a
 on_ok-map (Err e) A B f a = tt
 
 -- the bits that were made are those of the list
-pub built : (vs : List ℕ) (last w : ℕ) (low high : List Bool) → rises 0 vs ≡ true → length vs ≤ 2 ^ 36 → last ≡ last_of 0 vs → last < 2 ^ 64 → w ≡ low_width (length vs) last → low ≡ bits_of_each w vs
-    → high ≡ high_bits w vs → AreValues (length vs) last w low high × (values_of w low high ≡ vs)
+pub built : (vs : List ℕ) (last w : ℕ) (low high : List Bool) → rises 0 vs ≡ true → length vs ≤ 2 ^ 36 → last ≡ last_of 0 vs → last < 2 ^ 64 →
+    w ≡ low_width (length vs) last → low ≡ bits_of_each w vs →
+    high ≡ high_bits w vs → AreValues (length vs) last w low high × (values_of w low high ≡ vs)
 built vs last w low high r few l small wide lows highs =
     let rising : IsRising vs = record { rising = r; fits = omega (arith, l, small); few = few } in
     let w-is : w ≡ low_width (length vs) (last_of 0 vs) = wide ∙ ap (λ (u : ℕ). low_width (length vs) u) l in

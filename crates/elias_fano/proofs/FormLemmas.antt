@@ -1,11 +1,12 @@
 -- What each step of reading gives, and how a fault of one step becomes that of the whole.
-use Rattle.std.proofs.Common.{◌≡◌, ℕ, zero, suc, ◌+◌, ◌*◌, ◌-◌, ◌^◌, ◌<◌, ◌≤◌, Bool, true, false, ltb, List, [], ◌∷◌, ◌++◌, length, get_or, take, drop, Ok, Err, refl, sym, ap, ◌∙◌, subst, inl, inr, arith}
+use Rattle.std.proofs.Common.{◌≡◌, ℕ, zero, suc, ◌+◌, ◌*◌, ◌-◌, ◌^◌, ◌<◌, ◌≤◌, Bool, true, false, ltb, List, [], ◌∷◌, ◌++◌, length, get_or, take, drop, Ok}
+use Rattle.std.proofs.Common.{Err, refl, sym, ap, ◌∙◌, subst, inl, inr, arith}
 use Rattle.std.specs.Prelude.{◌⊎◌}
 use Rattle.std.specs.Int.{w64, from_le_bytes}
 use Rattle.std.proofs.lemmas.Bool.{cases_lt, lt-ltb, le-ltb, eq-eqb, ne_eqb}
 use Rattle.std.proofs.lemmas.List.{drop-drop, take_rest}
 use Rattle.bit_vector.specs.Bits.{bits_of, words_number, words_for, ones, IsPacked}
-use Rattle.bit_vector.proofs.PackLemmas.{packed_none}
+use Rattle.bit_vector.proofs.CallerLemmas.{packed_none}
 use Rattle.elias_fano.specs.declared.fault.ReadErr.{ReadErr}
 use Rattle.elias_fano.specs.declared.fault.ReadErr.TheVariants as errors
 use Rattle.elias_fano.specs.Spelling.{low_width, last_of, rises, high_len}
@@ -20,7 +21,8 @@ pub number_at-short : (at : ℕ) (bytes : List ℕ) → length bytes < 8 → num
 unfolding number_at
 number_at-short at bytes lt = rw (lt-ltb (length bytes) 8 lt) refl
 
-pub number_at-ok : (at : ℕ) (bytes : List ℕ) (n : ℕ) → 8 ≤ length bytes → n ≡ from_le_bytes w64 (take 8 bytes) → number_at at bytes ≡ Ok (n, take (length bytes - 8) (drop 8 bytes))
+pub number_at-ok : (at : ℕ) (bytes : List ℕ) (n : ℕ) → 8 ≤ length bytes → n ≡ from_le_bytes w64 (take 8 bytes) →
+    number_at at bytes ≡ Ok (n, take (length bytes - 8) (drop 8 bytes))
 unfolding number_at
 number_at-ok at bytes n le e =
     rw (le-ltb (length bytes) 8 le, take_rest bytes 8) (ap (λ (x : ℕ). Ok (x, drop 8 bytes)) (sym e))
@@ -33,7 +35,8 @@ words_in-more (suc i) bytes =
     let place : 8 + 8 * i ≡ 8 * suc i = omega arith in
     ap (λ (k : ℕ). words_in k bytes) next
     ∙ ap (λ (ws : List ℕ). from_le_bytes w64 (take 8 bytes) ∷ ws) (words_in-more i (drop 8 bytes))
-    ∙ ap (λ (bs : List ℕ). from_le_bytes w64 (take 8 bytes) ∷ (words_in i (drop 8 bytes) ++ from_le_bytes w64 (take 8 bs) ∷ [])) (drop-drop (8 * i) 8 bytes ∙ ap (λ (k : ℕ). drop k bytes) place)
+    ∙ ap (λ (bs : List ℕ). from_le_bytes w64 (take 8 bytes) ∷ (words_in i (drop 8 bytes) ++ from_le_bytes w64 (take 8 bs) ∷ [])) (drop-drop (8 * i) 8 bytes
+    ∙ ap (λ (k : ℕ). drop k bytes) place)
 
 pub words_in-none : (bytes : List ℕ) → [] ≡ words_in 0 bytes
 unfolding words_in
@@ -51,7 +54,8 @@ pub IsBytes-take : (n : ℕ) (bytes : List ℕ) → IsBytes bytes → IsBytes (t
 IsBytes-take n bytes h i =
     elim (cases_lt i n) [
       | inl lt ↦ rw (Rattle.std.proofs.lemmas.List.get_or-take n bytes i 0 lt) (h i)
-      | inr le ↦ rw (Rattle.std.proofs.lemmas.List.get_or_past (take n bytes) i 0 (omega (arith, Rattle.std.proofs.lemmas.List.length-take n bytes))) (omega arith)
+      | inr le ↦ rw (Rattle.std.proofs.lemmas.List.get_or_past (take n bytes) i 0 (omega (arith, Rattle.std.proofs.lemmas.List.length-take n bytes)))
+          (omega arith)
     ]
 
 pub number_lt : (bytes : List ℕ) → IsBytes bytes → from_le_bytes w64 bytes < 2 ^ 64
@@ -67,11 +71,13 @@ pub run_at-short : (at len count : ℕ) (bytes : List ℕ) → count ≡ words_f
 unfolding run_at
 run_at-short at len count bytes c lt = rw (lt-ltb (length bytes) (8 * words_for len) (omega (arith, c))) refl
 
-pub packed_if_clear : (len : ℕ) (bytes : List ℕ) → IsBytes bytes → words_number (words_in (words_for len) bytes) < 2 ^ len → IsPacked (words_in (words_for len) bytes) len
+pub packed_if_clear : (len : ℕ) (bytes : List ℕ) → IsBytes bytes → words_number (words_in (words_for len) bytes) < 2 ^ len →
+    IsPacked (words_in (words_for len) bytes) len
 packed_if_clear len bytes h lt = record { count = length-words_in (words_for len) bytes; fit = words_in-fit (words_for len) bytes h; clear = lt }
 
-pub run_at-padding : (at len count : ℕ) (bytes items : List ℕ) → count ≡ words_for len → 8 * count ≤ length bytes → IsBytes bytes → items ≡ words_in count bytes → (IsPacked items len → ⊥)
-    → run_at at len bytes ≡ Err (fault (at + 8 * count - 8) 3)
+pub run_at-padding : (at len count : ℕ) (bytes items : List ℕ) → count ≡ words_for len → 8 * count ≤ length bytes → IsBytes bytes →
+    items ≡ words_in count bytes → (IsPacked items len → ⊥) →
+    run_at at len bytes ≡ Err (fault (at + 8 * count - 8) 3)
 unfolding run_at
 run_at-padding at len count bytes items c le h e other =
     let n = words_number (words_in (words_for len) bytes) in
@@ -89,30 +95,41 @@ some_words len zero bytes items c e other =
     absurd (other (rw (none, empty) packed_none))
 some_words len (suc k) bytes items c e other = omega arith
 
-pub run_at-ok : (at len count : ℕ) (bytes items : List ℕ) (bits : List Bool) → count ≡ words_for len → 8 * count ≤ length bytes → items ≡ words_in count bytes → IsPacked items len → bits ≡ bits_of len (words_number items)
-    → run_at at len bytes ≡ Ok (bits, take (length bytes - 8 * count) (drop (8 * count) bytes))
+pub run_at-ok : (at len count : ℕ) (bytes items : List ℕ) (bits : List Bool) → count ≡ words_for len → 8 * count ≤ length bytes →
+    items ≡ words_in count bytes → IsPacked items len → bits ≡ bits_of len (words_number items) →
+    run_at at len bytes ≡ Ok (bits, take (length bytes - 8 * count) (drop (8 * count) bytes))
 unfolding run_at
 run_at-ok at len count bytes items bits c le e p b =
     let same : items ≡ words_in (words_for len) bytes = e ∙ ap (λ (k : ℕ). words_in k bytes) c in
-    let clear : ltb (words_number (words_in (words_for len) bytes)) (2 ^ len) ≡ true = lt-ltb _ _ (subst (λ (ws : List ℕ). words_number ws < 2 ^ len) same p.clear) in
+    let clear : ltb (words_number (words_in (words_for len) bytes)) (2 ^ len) ≡ true =
+    lt-ltb _ _ (subst (λ (ws : List ℕ). words_number ws < 2 ^ len) same p.clear) in
     let value : bits_of len (words_number (words_in (words_for len) bytes)) ≡ bits = ap (λ (ws : List ℕ). bits_of len (words_number ws)) (sym same) ∙ sym b in
-    rw (le-ltb (length bytes) (8 * words_for len) (omega (arith, c)), clear, take_rest bytes (8 * count), c) (ap (λ (bs : List Bool). Ok (bs, drop (8 * words_for len) bytes)) value)
+    rw (
+      le-ltb (length bytes) (8 * words_for len) (omega (arith, c)),
+      clear,
+      take_rest bytes (8 * count),
+      c,
+    ) (ap (λ (bs : List Bool). Ok (bs, drop (8 * words_for len) bytes)) value)
 
 -- ---- the checks
 
-pub checked-count : (at high_at count last w : ℕ) (low high : List Bool) → (ones high ≡ count → ⊥) → checked at high_at count last w low high ≡ Err (fault high_at 5)
+pub checked-count : (at high_at count last w : ℕ) (low high : List Bool) → (ones high ≡ count → ⊥) →
+    checked at high_at count last w low high ≡ Err (fault high_at 5)
 unfolding checked
 checked-count at high_at count last w low high other = rw (ne_eqb (ones high) count other) refl
 
-pub checked-order : (at high_at count last w : ℕ) (low high : List Bool) → ones high ≡ count → rises 0 (values_of w low high) ≡ false → checked at high_at count last w low high ≡ Err (fault (at + 8) 4)
+pub checked-order : (at high_at count last w : ℕ) (low high : List Bool) → ones high ≡ count → rises 0 (values_of w low high) ≡ false →
+    checked at high_at count last w low high ≡ Err (fault (at + 8) 4)
 unfolding checked
 checked-order at high_at count last w low high e other = rw (eq-eqb (ones high) count e, other) refl
 
-pub checked-last : (at high_at count last w : ℕ) (low high : List Bool) → ones high ≡ count → rises 0 (values_of w low high) ≡ true → (last_of 0 (values_of w low high) ≡ last → ⊥) → checked at high_at count last w low high ≡ Err (fault at 6)
+pub checked-last : (at high_at count last w : ℕ) (low high : List Bool) → ones high ≡ count → rises 0 (values_of w low high) ≡ true →
+    (last_of 0 (values_of w low high) ≡ last → ⊥) → checked at high_at count last w low high ≡ Err (fault at 6)
 unfolding checked
 checked-last at high_at count last w low high e r other = rw (eq-eqb (ones high) count e, r, ne_eqb (last_of 0 (values_of w low high)) last other) refl
 
-pub checked-ok : (at high_at count last w : ℕ) (low high : List Bool) → ones high ≡ count → rises 0 (values_of w low high) ≡ true → last_of 0 (values_of w low high) ≡ last → checked at high_at count last w low high ≡ Ok (values_of w low high)
+pub checked-ok : (at high_at count last w : ℕ) (low high : List Bool) → ones high ≡ count → rises 0 (values_of w low high) ≡ true →
+    last_of 0 (values_of w low high) ≡ last → checked at high_at count last w low high ≡ Ok (values_of w low high)
 unfolding checked
 checked-ok at high_at count last w low high e r l = rw (eq-eqb (ones high) count e, r, eq-eqb (last_of 0 (values_of w low high)) last l) refl
 
@@ -123,19 +140,23 @@ unfolding parts_at
 parts_at-low errors.NoMemory at count last w bytes h = tt
 parts_at-low (errors.Form f) at count last w bytes h = rw h refl
 
-pub parts_at-high : (e : ReadErr) (at count last w : ℕ) (bytes : List ℕ) (low : List Bool) (rest : List ℕ) → run_at (at + 8) (count * w) bytes ≡ Ok (low, rest) → Fails e (run_at (at + 8 + 8 * words_for (count * w)) (high_len count last w) rest) → Fails e (parts_at at count last w bytes)
+pub parts_at-high : (e : ReadErr) (at count last w : ℕ) (bytes : List ℕ) (low : List Bool) (rest : List ℕ) →
+    run_at (at + 8) (count * w) bytes ≡ Ok (low, rest) → Fails e (run_at (at + 8 + 8 * words_for (count * w)) (high_len count last w) rest) →
+    Fails e (parts_at at count last w bytes)
 unfolding parts_at
 parts_at-high errors.NoMemory at count last w bytes low rest l h = tt
 parts_at-high (errors.Form f) at count last w bytes low rest l h = rw (l, h) refl
 
-pub parts_at-check : (e : ReadErr) (at count last w : ℕ) (bytes : List ℕ) (low high : List Bool) (rest after : List ℕ) → run_at (at + 8) (count * w) bytes ≡ Ok (low, rest) → run_at (at + 8 + 8 * words_for (count * w)) (high_len count last w) rest ≡ Ok (high, after)
-    → Fails e (checked at (at + 8 + 8 * words_for (count * w)) count last w low high) → Fails e (parts_at at count last w bytes)
+pub parts_at-check : (e : ReadErr) (at count last w : ℕ) (bytes : List ℕ) (low high : List Bool) (rest after : List ℕ) →
+    run_at (at + 8) (count * w) bytes ≡ Ok (low, rest) → run_at (at + 8 + 8 * words_for (count * w)) (high_len count last w) rest ≡ Ok (high, after) →
+    Fails e (checked at (at + 8 + 8 * words_for (count * w)) count last w low high) → Fails e (parts_at at count last w bytes)
 unfolding parts_at
 parts_at-check errors.NoMemory at count last w bytes low high rest after l h c = tt
 parts_at-check (errors.Form f) at count last w bytes low high rest after l h c = rw (l, h, c) refl
 
-pub parts_at-ok : (at count last w : ℕ) (bytes : List ℕ) (low high : List Bool) (rest after vs : List ℕ) → run_at (at + 8) (count * w) bytes ≡ Ok (low, rest) → run_at (at + 8 + 8 * words_for (count * w)) (high_len count last w) rest ≡ Ok (high, after)
-    → checked at (at + 8 + 8 * words_for (count * w)) count last w low high ≡ Ok vs → parts_at at count last w bytes ≡ Ok (vs, after)
+pub parts_at-ok : (at count last w : ℕ) (bytes : List ℕ) (low high : List Bool) (rest after vs : List ℕ) →
+    run_at (at + 8) (count * w) bytes ≡ Ok (low, rest) → run_at (at + 8 + 8 * words_for (count * w)) (high_len count last w) rest ≡ Ok (high, after) →
+    checked at (at + 8 + 8 * words_for (count * w)) count last w low high ≡ Ok vs → parts_at at count last w bytes ≡ Ok (vs, after)
 unfolding parts_at
 parts_at-ok at count last w bytes low high rest after vs l h c = rw (l, h, c) refl
 
@@ -144,11 +165,13 @@ unfolding list_at
 list_at-number errors.NoMemory at count bytes h = tt
 list_at-number (errors.Form f) at count bytes h = rw h refl
 
-pub list_at-last : (at count last : ℕ) (bytes rest : List ℕ) → number_at at bytes ≡ Ok (last, rest) → count ≡ 0 → (last ≡ 0 → ⊥) → list_at at count bytes ≡ Err (fault at 6)
+pub list_at-last : (at count last : ℕ) (bytes rest : List ℕ) → number_at at bytes ≡ Ok (last, rest) → count ≡ 0 → (last ≡ 0 → ⊥) →
+    list_at at count bytes ≡ Err (fault at 6)
 unfolding list_at
 list_at-last at count last bytes rest n none some = rw (n, eq-eqb count 0 none, ne_eqb last 0 some) refl
 
-pub list_at-parts : (at count last : ℕ) (bytes rest : List ℕ) → number_at at bytes ≡ Ok (last, rest) → ((count ≡ 0) × (last ≡ 0)) ⊎ (count ≡ 0 → ⊥) → list_at at count bytes ≡ parts_at at count last (low_width count last) rest
+pub list_at-parts : (at count last : ℕ) (bytes rest : List ℕ) → number_at at bytes ≡ Ok (last, rest) → ((count ≡ 0) × (last ≡ 0)) ⊎ (count ≡ 0 → ⊥) →
+    list_at at count bytes ≡ parts_at at count last (low_width count last) rest
 unfolding list_at
 list_at-parts at count last bytes rest n h =
     elim h [

@@ -1,11 +1,12 @@
 -- A list and the bits that it is written in.
-use Rattle.std.proofs.Common.{◌≡◌, ℕ, zero, suc, ◌+◌, ◌*◌, ◌-◌, ◌/◌, ◌%◌, ◌^◌, ◌<◌, ◌≤◌, Bool, true, false, List, [], ◌∷◌, ◌++◌, length, take, drop, refl, sym, ap, ◌∙◌, inl, inr, arith}
+use Rattle.std.proofs.Common.{◌≡◌, ℕ, zero, suc, ◌+◌, ◌*◌, ◌-◌, ◌/◌, ◌%◌, ◌^◌, ◌<◌, ◌≤◌, Bool, true, false, List, [], ◌∷◌, ◌++◌, length, take, drop, refl}
+use Rattle.std.proofs.Common.{sym, ap, ◌∙◌, inl, inr, arith}
 use Rattle.std.proofs.lemmas.Bool.{cases_lt, eq-eqb, ne_eqb}
 use Rattle.std.proofs.lemmas.Nat.{shr_split, shr_high}
 use Rattle.std.proofs.lemmas.List.{append-nil, take-append-drop, take_at, drop_at, length-take, length-drop, length-append}
 use Rattle.bit_vector.specs.Bits.{bits_of, bits_of_each, number_of, places_from, places}
-use Rattle.bit_vector.proofs.FieldLemmas.{bits_of-high, length-bits_of_each}
-use Rattle.bit_vector.proofs.BitLemmas.{length-bits_of, bits_of-number_of, number_of-bits_of, length-places_from}
+use Rattle.bit_vector.proofs.CallerLemmas.{bits_of-high, length-bits_of_each}
+use Rattle.bit_vector.proofs.CallerLemmas.{length-bits_of, bits_of-number_of, number_of-bits_of, length-places_from}
 use Rattle.elias_fano.specs.Spelling.{last_of, rises, high_places, is_among, marks, high_len, low_width, ef_text, text_at, number, run, IsRising}
 use Rattle.elias_fano.specs.Values.{joined, values_of, AreParts, AreValues}
 use Rattle.elias_fano.proofs.ValueLemmas.{low-lt, length-joined, rises-parts, rises-yes, bound-le-last}
@@ -16,9 +17,11 @@ bits_of_each-joined w k [] low e = sym (Rattle.std.proofs.lemmas.List.nil_from_l
 bits_of_each-joined w k (p ∷ ps) low e =
     let size : length (take w low) ≡ w = omega (arith, length-take w low, e) in
     let first : bits_of w ((p - k) * 2 ^ w + number_of (take w low)) ≡ take w low =
-    bits_of-high w (number_of (take w low)) (p - k) (low-lt w low) ∙ ap (λ (j : ℕ). bits_of j (number_of (take w low))) (sym size) ∙ bits_of-number_of (take w low) in
+    bits_of-high w (number_of (take w low)) (p - k) (low-lt w low) ∙ ap (λ (j : ℕ). bits_of j (number_of (take w low))) (sym size)
+    ∙ bits_of-number_of (take w low) in
     let others = bits_of_each-joined w (k + 1) ps (drop w low) (omega (arith, length-drop w low, e)) in
-    ap (λ (bs : List Bool). bs ++ bits_of_each w (joined w (k + 1) ps (drop w low))) first ∙ ap (λ (bs : List Bool). take w low ++ bs) others ∙ take-append-drop w low
+    ap (λ (bs : List Bool). bs ++ bits_of_each w (joined w (k + 1) ps (drop w low))) first ∙ ap (λ (bs : List Bool). take w low ++ bs) others
+    ∙ take-append-drop w low
 
 pub high_places-joined : (w k at : ℕ) (bs low : List Bool) → k ≤ at → high_places w k (joined w k (places_from at bs) low) ≡ places_from at bs
 unfolding high_places joined places_from
@@ -26,7 +29,8 @@ high_places-joined w k at [] low le = refl
 high_places-joined w k at (true ∷ bs) low le =
     let high : ((at - k) * 2 ^ w + number_of (take w low)) / 2 ^ w ≡ at - k = shr_high (at - k) w (number_of (take w low)) (low-lt w low) in
     let first : ((at - k) * 2 ^ w + number_of (take w low)) / 2 ^ w + k ≡ at = omega (arith, high) in
-    ap (λ (x : ℕ). x ∷ high_places w (k + 1) (joined w (k + 1) (places_from (at + 1) bs) (drop w low))) first ∙ ap (λ (xs : List ℕ). at ∷ xs) (high_places-joined w (k + 1) (at + 1) bs (drop w low) (omega arith))
+    ap (λ (x : ℕ). x ∷ high_places w (k + 1) (joined w (k + 1) (places_from (at + 1) bs) (drop w low))) first
+    ∙ ap (λ (xs : List ℕ). at ∷ xs) (high_places-joined w (k + 1) (at + 1) bs (drop w low) (omega arith))
 high_places-joined w k at (false ∷ bs) low le = high_places-joined w k (at + 1) bs low (omega arith)
 
 -- a place before all of them
@@ -40,13 +44,15 @@ is_among-before x at (false ∷ bs) lt = is_among-before x (at + 1) bs (omega ar
 marks-passed : (at n p : ℕ) (ps : List ℕ) → p < at → marks at n (p ∷ ps) ≡ marks at n ps
 unfolding marks is_among
 marks-passed at zero p ps lt = refl
-marks-passed at (suc n) p ps lt = rw (ne_eqb at p (λ e. omega (arith, e))) (ap (λ (bs : List Bool). is_among at ps ∷ bs) (marks-passed (at + 1) n p ps (omega arith)))
+marks-passed at (suc n) p ps lt =
+    rw (ne_eqb at p (λ e. omega (arith, e))) (ap (λ (bs : List Bool). is_among at ps ∷ bs) (marks-passed (at + 1) n p ps (omega arith)))
 
 pub marks-places_from : (at : ℕ) (bs : List Bool) → marks at (length bs) (places_from at bs) ≡ bs
 unfolding marks is_among places_from
 marks-places_from at [] = refl
 marks-places_from at (true ∷ bs) =
-    rw (eq-eqb at at refl) (ap (λ (cs : List Bool). true ∷ cs) (marks-passed (at + 1) (length bs) at (places_from (at + 1) bs) (omega arith) ∙ marks-places_from (at + 1) bs))
+    rw (eq-eqb at at refl) (ap (λ (cs : List Bool). true ∷ cs) (marks-passed (at + 1) (length bs) at (places_from (at + 1) bs) (omega arith)
+    ∙ marks-places_from (at + 1) bs))
 marks-places_from at (false ∷ bs) =
     rw (is_among-before at (at + 1) bs (omega arith)) (ap (λ (cs : List Bool). false ∷ cs) (marks-places_from (at + 1) bs))
 
@@ -56,9 +62,11 @@ joined-high_places w k [] = refl
 joined-high_places w k (v ∷ vs) =
     let high : v / 2 ^ w + k - k ≡ v / 2 ^ w = omega arith in
     let size = length-bits_of w v in
-    let low : number_of (take w (bits_of w v ++ bits_of_each w vs)) ≡ v % 2 ^ w = ap number_of (take_at (bits_of w v) (bits_of_each w vs) w size) ∙ number_of-bits_of w v in
+    let low : number_of (take w (bits_of w v ++ bits_of_each w vs)) ≡ v % 2 ^ w = ap number_of (take_at (bits_of w v) (bits_of_each w vs) w size)
+    ∙ number_of-bits_of w v in
     let rest : drop w (bits_of w v ++ bits_of_each w vs) ≡ bits_of_each w vs = drop_at (bits_of w v) (bits_of_each w vs) w size in
-    let first : (v / 2 ^ w + k - k) * 2 ^ w + number_of (take w (bits_of w v ++ bits_of_each w vs)) ≡ v = ap (λ (x : ℕ). x * 2 ^ w + number_of (take w (bits_of w v ++ bits_of_each w vs))) high ∙ ap (λ (x : ℕ). v / 2 ^ w * 2 ^ w + x) low ∙ shr_split v w in
+    let first : (v / 2 ^ w + k - k) * 2 ^ w + number_of (take w (bits_of w v ++ bits_of_each w vs)) ≡ v =
+    ap (λ (x : ℕ). x * 2 ^ w + number_of (take w (bits_of w v ++ bits_of_each w vs))) high ∙ ap (λ (x : ℕ). v / 2 ^ w * 2 ^ w + x) low ∙ shr_split v w in
     ap (λ (x : ℕ). x ∷ joined w (k + 1) (high_places w (k + 1) vs) (drop w (bits_of w v ++ bits_of_each w vs))) first
     ∙ ap (λ (bs : List Bool). v ∷ joined w (k + 1) (high_places w (k + 1) vs) bs) rest
     ∙ ap (λ (xs : List ℕ). v ∷ xs) (joined-high_places w (k + 1) vs)
@@ -90,7 +98,8 @@ unfolding places_from marks is_among
 places_from-no_marks at zero = refl
 places_from-no_marks at (suc n) = places_from-no_marks (at + 1) n
 
-pub places_from-marks : (w k d at n : ℕ) (vs : List ℕ) → rises d vs ≡ true → at ≤ d / 2 ^ w + k → last_of d vs / 2 ^ w + k + length vs ≤ at + n → places_from at (marks at n (high_places w k vs)) ≡ high_places w k vs
+pub places_from-marks : (w k d at n : ℕ) (vs : List ℕ) → rises d vs ≡ true → at ≤ d / 2 ^ w + k → last_of d vs / 2 ^ w + k + length vs ≤ at + n →
+    places_from at (marks at n (high_places w k vs)) ≡ high_places w k vs
 unfolding places_from marks is_among high_places last_of
 places_from-marks w k d at zero [] h low high = refl
 places_from-marks w k d at zero (v ∷ vs) h low high =
@@ -120,24 +129,29 @@ pub values-length : (count last w : ℕ) (low high : List Bool) → AreParts cou
 values-length count last w low high p = length-joined w 0 (places high) low ∙ length-places_from 0 high ∙ p.ones_are
 
 -- the spelling of the values is that of the bits
-pub ef_text-values : (count last w : ℕ) (low high : List Bool) → AreValues count last w low high → ef_text (values_of w low high) ≡ number last ++ run low ++ run high
+pub ef_text-values : (count last w : ℕ) (low high : List Bool) → AreValues count last w low high →
+    ef_text (values_of w low high) ≡ number last ++ run low ++ run high
 unfolding ef_text
 ef_text-values count last w low high v =
     let vs = values_of w low high in
     let n = values-length count last w low high v.parts in
-    let wide : low_width (length vs) (last_of 0 vs) ≡ w = ap (λ (k : ℕ). low_width k (last_of 0 vs)) n ∙ ap (λ (u : ℕ). low_width count u) v.last_is ∙ sym v.parts.wide in
+    let wide : low_width (length vs) (last_of 0 vs) ≡ w = ap (λ (k : ℕ). low_width k (last_of 0 vs)) n ∙ ap (λ (u : ℕ). low_width count u) v.last_is
+    ∙ sym v.parts.wide in
     let size : length low ≡ length (places high) * w = v.parts.low_len ∙ ap (λ (k : ℕ). k * w) (sym v.parts.ones_are ∙ sym (length-places_from 0 high)) in
     let lows : bits_of_each w vs ≡ low = bits_of_each-joined w 0 (places high) low size in
     let tall : high_len (length vs) last w ≡ length high = ap (λ (k : ℕ). high_len k last w) n ∙ sym v.parts.high_len_is in
     let highs : marks 0 (high_len (length vs) last w) (high_places w 0 vs) ≡ high =
-    ap (λ (ps : List ℕ). marks 0 (high_len (length vs) last w) ps) (high_places-joined w 0 0 high low (omega arith)) ∙ ap (λ (k : ℕ). marks 0 k (places high)) tall ∙ marks-places_from 0 high in
+    ap (λ (ps : List ℕ). marks 0 (high_len (length vs) last w) ps) (high_places-joined w 0 0 high low (omega arith))
+    ∙ ap (λ (k : ℕ). marks 0 k (places high)) tall ∙ marks-places_from 0 high in
     ap (λ (u : ℕ). text_at u (low_width (length vs) (last_of 0 vs)) vs) v.last_is
     ∙ ap (λ (k : ℕ). text_at last k vs) wide
     ∙ ap (λ (bs : List Bool). number last ++ run bs ++ run (marks 0 (high_len (length vs) last w) (high_places w 0 vs))) lows
     ∙ ap (λ (bs : List Bool). number last ++ run low ++ run bs) highs
 
 -- the bits of a list that rises are those of its values
-pub list-values : (vs : List ℕ) → IsRising vs → let last = last_of 0 vs in let w = low_width (length vs) last in let high = marks 0 (high_len (length vs) last w) (high_places w 0 vs) in AreParts (length vs) last w (bits_of_each w vs) high × (values_of w (bits_of_each w vs) high ≡ vs)
+pub list-values : (vs : List ℕ) → IsRising vs → let last = last_of 0 vs in let w = low_width (length vs) last in
+    let high = marks 0 (high_len (length vs) last w) (high_places w 0 vs) in
+    AreParts (length vs) last w (bits_of_each w vs) high × (values_of w (bits_of_each w vs) high ≡ vs)
 list-values vs r =
     let last = last_of 0 vs in
     let w = low_width (length vs) last in

@@ -1,17 +1,21 @@
 -- One value from the place of its one and its low bits; values in order.
-use Rattle.std.proofs.Common.{◌≡◌, ℕ, zero, suc, ◌+◌, ◌*◌, ◌-◌, ◌/◌, ◌%◌, ◌^◌, ◌<◌, ◌≤◌, Bool, true, false, leb, List, [], ◌∷◌, length, get_or, take, drop, Some, None, refl, sym, ap, ◌∙◌, inl, inr, arith}
+use Rattle.std.proofs.Common.{◌≡◌, ℕ, zero, suc, ◌+◌, ◌*◌, ◌-◌, ◌/◌, ◌%◌, ◌^◌, ◌<◌, ◌≤◌, Bool, true, false, leb, ltb, List, [], ◌∷◌, length, get_or, take, drop}
+use Rattle.std.proofs.Common.{Some, None, refl, sym, ap, ◌∙◌, inl, inr, arith}
 use Rattle.std.specs.Prelude.{◌⊎◌, IsSome}
-use Rattle.std.specs.List.{slice_get}
-use Rattle.std.proofs.Math.Nat.{pow-le-pow_right}
-use Rattle.std.proofs.lemmas.Nat.{mul-le, shr_high, mod_low, shr_split}
-use Rattle.std.proofs.lemmas.Bool.{cases_lt, cases_order, and_parts, leb-true, le-leb, lt-leb}
+use Rattle.std.specs.List.{slice_get, prefix_len}
+use Rattle.std.specs.Prelude.{bit_or}
+use Rattle.std.proofs.lemmas.List.Sums.{prefix_len-le-length, prefix_len_passes, prefix_len_stops}
+use Rattle.std.proofs.Math.Nat.{pow-le-pow_right, mod-eq_of_lt}
+use Rattle.std.proofs.lemmas.Nat.{mul-le, shr_high, mod_low, shr_split, or_shifted}
+use Rattle.std.proofs.lemmas.Bool.{cases_lt, cases_order, and_parts, leb-true, le-leb, lt-leb, ltb-true, ltb-false}
 use Rattle.std.proofs.lemmas.List.{drop-drop, drop_more, length-take}
 use Rattle.bit_vector.specs.Bits.{number_of, places_from}
-use Rattle.bit_vector.proofs.BitLemmas.{number_of-lt}
+use Rattle.bit_vector.proofs.CallerLemmas.{number_of-lt}
 use Rattle.elias_fano.specs.Spelling.{last_of, rises}
-use Rattle.elias_fano.specs.Values.{joined}
+use Rattle.elias_fano.specs.Values.{joined, below_len}
 
-pub get_or-joined : (w k : ℕ) (ps : List ℕ) (low : List Bool) (i p : ℕ) → slice_get ps i ≡ Some p → get_or (joined w k ps low) i 0 ≡ (p - (k + i)) * 2 ^ w + number_of (take w (drop (i * w) low))
+pub get_or-joined : (w k : ℕ) (ps : List ℕ) (low : List Bool) (i p : ℕ) → slice_get ps i ≡ Some p →
+    get_or (joined w k ps low) i 0 ≡ (p - (k + i)) * 2 ^ w + number_of (take w (drop (i * w) low))
 unfolding joined
 get_or-joined w k [] low i p e = absurd cc
 get_or-joined w k (q ∷ ps) low zero p e =
@@ -103,10 +107,12 @@ last_of-nil d = refl
 
 -- one value more of a list that is looked at in order
 pub rises-drop_yes : (vs : List ℕ) (i b v : ℕ) → i < length vs → v ≡ get_or vs i 0 → b ≤ v → rises b (drop i vs) ≡ rises v (drop (i + 1) vs)
-rises-drop_yes vs i b v lt e le = ap (rises b) (drop_more vs i 0 lt) ∙ ap (λ (x : ℕ). rises b (x ∷ drop (i + 1) vs)) (sym e) ∙ rises-yes b v (drop (i + 1) vs) le
+rises-drop_yes vs i b v lt e le = ap (rises b) (drop_more vs i 0 lt) ∙ ap (λ (x : ℕ). rises b (x ∷ drop (i + 1) vs)) (sym e)
+    ∙ rises-yes b v (drop (i + 1) vs) le
 
 pub rises-drop_no : (vs : List ℕ) (i b v : ℕ) → i < length vs → v ≡ get_or vs i 0 → v < b → rises b (drop i vs) ≡ false
-rises-drop_no vs i b v lt e less = ap (rises b) (drop_more vs i 0 lt) ∙ ap (λ (x : ℕ). rises b (x ∷ drop (i + 1) vs)) (sym e) ∙ rises-no b v (drop (i + 1) vs) less
+rises-drop_no vs i b v lt e less = ap (rises b) (drop_more vs i 0 lt) ∙ ap (λ (x : ℕ). rises b (x ∷ drop (i + 1) vs)) (sym e)
+    ∙ rises-no b v (drop (i + 1) vs) less
 
 -- ---- values by their parts
 
@@ -137,3 +143,63 @@ parts-of h l w n small e = (sym (shr_high h w l small) ∙ ap (λ (m : ℕ). m /
 
 pub parts-join : (h l w n : ℕ) → h ≡ n / 2 ^ w → l ≡ n % 2 ^ w → h * 2 ^ w + l ≡ n
 parts-join h l w n e f = ap (λ (q : ℕ). q * 2 ^ w + l) e ∙ ap (λ (q : ℕ). n / 2 ^ w * 2 ^ w + q) f ∙ shr_split n w
+
+-- no value is below a bound of the list
+bound-le-get : (d : ℕ) (vs : List ℕ) (i : ℕ) → rises d vs ≡ true → i < length vs → d ≤ get_or vs i 0
+bound-le-get d [] i h lt = absurd (omega arith)
+bound-le-get d (v ∷ vs) zero h lt = (rises-parts d v vs h).0
+bound-le-get d (v ∷ vs) (suc i) h lt =
+    let p = rises-parts d v vs h in
+    omega (arith, p.0, bound-le-get v vs i p.1 (omega arith))
+
+-- of two values the later one is not below the other
+pub get_or-mono : (d : ℕ) (vs : List ℕ) (j i : ℕ) → rises d vs ≡ true → j ≤ i → i < length vs → get_or vs j 0 ≤ get_or vs i 0
+get_or-mono d [] j i h le lt = absurd (omega arith)
+get_or-mono d (v ∷ vs) zero zero h le lt = omega arith
+get_or-mono d (v ∷ vs) zero (suc i) h le lt = bound-le-get v vs i (rises-parts d v vs h).1 (omega arith)
+get_or-mono d (v ∷ vs) (suc j) zero h le lt = absurd (omega arith)
+get_or-mono d (v ∷ vs) (suc j) (suc i) h le lt = get_or-mono v vs j i (rises-parts d v vs h).1 (omega arith) (omega arith)
+
+-- ---- how many values are below a bound
+
+-- not more than stand before one that is not
+pub below_len-le : (bound : ℕ) (vs : List ℕ) (i : ℕ) → bound ≤ get_or vs i 0 → below_len bound vs ≤ i
+below_len-le bound vs i le =
+    elim (cases_lt i (below_len bound vs)) [
+      | inl lt ↦
+          let passes = ltb-true (get_or vs i 0) bound (prefix_len_passes (λ (v : ℕ). ltb v bound) vs i 0 lt) in
+          absurd (omega (arith, passes))
+      | inr ge ↦ ge
+    ]
+
+-- where the values rise, more than stand before one that is
+pub below_len-gt : (bound : ℕ) (vs : List ℕ) (i : ℕ) → rises 0 vs ≡ true → i < length vs → get_or vs i 0 < bound → i < below_len bound vs
+below_len-gt bound vs i h lt less =
+    elim (cases_lt i (below_len bound vs)) [
+      | inl more ↦ more
+      | inr ge ↦
+          let stops = ltb-false (get_or vs (below_len bound vs) 0) bound (prefix_len_stops (λ (v : ℕ). ltb v bound) vs 0 (omega arith)) in
+          let up = get_or-mono 0 vs (below_len bound vs) i h ge lt in
+          absurd (omega (arith, stops, up))
+    ]
+
+-- not more than there are
+pub below_len-most : (bound : ℕ) (vs : List ℕ) → below_len bound vs ≤ length vs
+below_len-most bound vs = prefix_len-le-length (λ (v : ℕ). ltb v bound) vs
+
+-- all of them where the last one is
+pub below_len-all : (bound : ℕ) (vs : List ℕ) → rises 0 vs ≡ true → last_of 0 vs < bound → length vs ≡ below_len bound vs
+below_len-all bound vs h less =
+    elim (cases_lt 0 (length vs)) [
+      | inl some ↦
+          let end = last_of-is 0 vs some in
+          let more = below_len-gt bound vs (length vs - 1) h (omega arith) (omega (arith, end)) in
+          omega (arith, more, below_len-most bound vs)
+      | inr none ↦ omega (arith, below_len-most bound vs)
+    ]
+
+-- a value from its parts, where it is below 2 ^ 64
+pub parts-word : (h l w v : ℕ) → l < 2 ^ w → h * 2 ^ w + l ≡ v → v < 2 ^ 64 → bit_or (h * 2 ^ w % 2 ^ 64) l ≡ v
+parts-word h l w v small e fits =
+    let below : h * 2 ^ w < 2 ^ 64 = omega (arith, e) in
+    ap (λ (x : ℕ). bit_or x l) (mod-eq_of_lt below) ∙ or_shifted h w l small ∙ e

@@ -13,7 +13,8 @@ log2_is (suc most) n zero small low high = rw (lt-ltb n 2 (omega arith)) refl
 log2_is (suc most) n (suc r) small low high =
     let p = pow-suc 2 r in
     let q = pow-suc 2 (suc most) in
-    rw (le-ltb n 2 (omega (arith, p, pow_pos r))) (ap (λ (x : ℕ). x + 1) (log2_is most (n / 2) r (omega (arith, q)) (omega (arith, p)) (omega (arith, p))) ∙ omega arith)
+    rw (le-ltb n 2 (omega (arith, p, pow_pos r))) (ap (λ (x : ℕ). x + 1) (log2_is most (n / 2) r (omega (arith, q)) (omega (arith, p)) (omega (arith, p)))
+    ∙ omega arith)
 
 pub log2-le : (most n : ℕ) → log2_within most n ≤ most
 unfolding log2_within
@@ -36,7 +37,8 @@ low_width-small count last e =
       | inr some ↦ rw (ne_eqb count 0 some, e) (log2_is 63 1 0 (omega arith) (omega arith) (omega arith))
     ]
 
-pub low_width-is : (count last r : ℕ) → (count ≡ 0 → ⊥) → last < 2 ^ 64 → (last / count ≡ 0 → ⊥) → 2 ^ r ≤ last / count → last / count < 2 * 2 ^ r → low_width count last ≡ r
+pub low_width-is : (count last r : ℕ) → (count ≡ 0 → ⊥) → last < 2 ^ 64 → (last / count ≡ 0 → ⊥) → 2 ^ r ≤ last / count → last / count < 2 * 2 ^ r →
+    low_width count last ≡ r
 unfolding low_width
 low_width-is count last r some small large low high =
     let most : max 1 (last / count) ≡ last / count = omega arith in
@@ -60,3 +62,25 @@ few_high count last r some high =
 
 pub few_high-small : (count last : ℕ) → 0 < count → last / count ≡ 0 → last / 2 ^ 0 ≤ 2 * count
 few_high-small count last some e = few_high count last 0 some (omega (arith, e))
+
+-- a number is below the next power of two
+log2-above : (most n : ℕ) → n < 2 ^ suc most → n < 2 * 2 ^ log2_within most n
+unfolding log2_within
+log2-above zero n lt = omega (arith, lt, pow-suc 2 0)
+log2-above (suc most) n lt =
+    elim (cases_lt n 2) [
+      | inl small ↦ rw (lt-ltb n 2 small) (omega (arith, small))
+      | inr more ↦
+          let half = log2-above most (n / 2) (omega (arith, pow-suc 2 (suc most), lt)) in
+          let r = log2_within most (n / 2) in
+          let next : 2 ^ (r + 1) ≡ 2 ^ suc r = ap (λ (j : ℕ). 2 ^ j) (omega arith) in
+          rw (le-ltb n 2 more) (omega (arith, half, next, pow-suc 2 r))
+    ]
+
+-- few digits stand above the low bits
+pub high-few : (count last : ℕ) → 0 < count → last < 2 ^ 64 → last / 2 ^ low_width count last ≤ 2 * count
+unfolding low_width
+high-few count last some fits =
+    let most : max 1 (last / count) < 2 ^ suc 63 = omega (arith, Rattle.std.proofs.Math.Nat.div-le_self last count) in
+    let above = log2-above 63 (max 1 (last / count)) most in
+    rw (ne_eqb count 0 (λ e. omega (arith, e))) (few_high count last (log2_within 63 (max 1 (last / count))) some (omega (arith, above)))

@@ -1,5 +1,6 @@
 -- Reading a spelling from the left, with the first fault that is met.
-use Rattle.std.specs.Prelude.{ℕ, zero, suc, ◌≡◌, ◌+◌, ◌-◌, ◌*◌, ◌^◌, Bool, not, ◌&&◌, List, [], ◌∷◌, ◌++◌, length, take, drop, Result, Ok, Err, nat_lt, ◌==◌, if◌then◌else◌}
+use Rattle.std.specs.Prelude.{ℕ, zero, suc, ◌≡◌, ◌+◌, ◌-◌, ◌*◌, ◌^◌, Bool, not, ◌&&◌, List, [], ◌∷◌, ◌++◌, length, take, drop, Result, Ok, Err, nat_lt, ◌==◌}
+use Rattle.std.specs.Prelude.{if◌then◌else◌}
 use Rattle.std.specs.Int.{w64, from_le_bytes}
 use Rattle.bit_vector.specs.Bits.{bits_of, words_number, words_for, ones}
 use Rattle.elias_fano.specs.declared.fault.FormFault.{FormFault}
@@ -40,7 +41,10 @@ words_in (suc count) bytes = from_le_bytes w64 (take 8 bytes) ∷ words_in count
 unfoldable pub run_at : ℕ → ℕ → List ℕ → Result (List Bool × List ℕ) FormFault
 run_at at len bytes =
     if nat_lt (length bytes) (8 * words_for len) then Err (fault at SHORT)
-    else (if nat_lt (words_number (words_in (words_for len) bytes)) (2 ^ len) then Ok (bits_of len (words_number (words_in (words_for len) bytes)), drop (8 * words_for len) bytes)
+    else (if nat_lt (words_number (words_in (words_for len) bytes)) (2 ^ len) then Ok (
+      bits_of len (words_number (words_in (words_for len) bytes)),
+      drop (8 * words_for len) bytes,
+    )
     else Err (fault (at + 8 * words_for len - 8) PADDING))
 
 -- the values, once the bits are read: the number of ones, then the order, then the last value

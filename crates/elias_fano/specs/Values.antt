@@ -1,5 +1,6 @@
 -- The values that low and high bits stand for, and what bits a list has.
-use Rattle.std.specs.Prelude.{ℕ, ◌≡◌, ◌+◌, ◌-◌, ◌*◌, ◌^◌, ◌<◌, ◌≤◌, Bool, true, List, [], ◌∷◌, length, take, drop}
+use Rattle.std.specs.Prelude.{ℕ, ◌≡◌, ◌+◌, ◌-◌, ◌*◌, ◌^◌, ◌<◌, ◌≤◌, Bool, true, List, [], ◌∷◌, length, take, drop, nat_lt}
+use Rattle.std.specs.List.{prefix_len}
 use Rattle.bit_vector.specs.Bits.{number_of, ones, places}
 use Rattle.elias_fano.specs.Spelling.{low_width, last_of, rises, high_len}
 
@@ -26,3 +27,7 @@ pub record AreValues (count last width : ℕ) (low high : List Bool) : Type 0 wh
   pub fits : last < 2 ^ 64
   pub rising : rises 0 (values_of width low high) ≡ true
   pub last_is : last_of 0 (values_of width low high) ≡ last
+
+-- how many values at the front are below a bound
+abbrev pub below_len : ℕ → List ℕ → ℕ
+below_len bound vs = prefix_len (λ v. nat_lt v bound) vs

@@ -1,3 +1,4 @@
+// The bits of a list, made of its values.
 ghost use Rattle.std.specs.Prelude.{◌≡◌, ◌/◌, ◌^◌, ◌<◌, ◌≤◌, true, length, IfOk};
 ghost use Rattle.elias_fano.specs.Spelling.{last_of, rises, high_bits};
 

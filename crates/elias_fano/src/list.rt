@@ -1,12 +1,13 @@
-ghost use Rattle.std.specs.Prelude.{◌≡◌, ◌^◌, ◌≤◌, ◌++◌, ℕ, List, true, length, drop, IfOk, OnOk, OnErr};
+// A list of numbers that don't fall.
+ghost use Rattle.std.specs.Prelude.{◌≡◌, ◌+◌, ◌^◌, ◌<◌, ◌≤◌, ◌++◌, ℕ, List, true, length, drop, slice_index, IfOk, OnOk, OnErr};
 ghost use Rattle.std.specs.List.{slice_get};
 ghost use Rattle.elias_fano.specs.Spelling.{rises, ef_text, IsRising};
-ghost use Rattle.elias_fano.specs.Values.{values_of, AreValues};
+ghost use Rattle.elias_fano.specs.Values.{values_of, below_len, AreValues};
 ghost use Rattle.elias_fano.specs.Reading.{Gives, list_at, IsSpelled};
 
 use crate::build::{high_part, last_value};
 use crate::fault::ReadErr;
-use crate::parts::{part_at, width_of};
+use crate::parts::{part_at, two_parts, width_of};
 use crate::reading::read_list;
 use crate::writing::put_list;
 use bit_vector::{BitVec, NoMemory, Selector};
@@ -80,6 +81,28 @@ impl EliasFano {
         Some(high << self.width | low)
     }
 
+    /// The value with an index and the next one, for little more than one of them.
+    pub fn pair(&self, i: u64) -> (u64, u64)
+        requires { i + 1 < length self.now }
+        ensures value { result.0 ≡ slice_index self.now i }
+        ensures next { result.1 ≡ slice_index self.now (i + 1) }
+    {
+        let ((high, low), (next, next_low)) = two_parts(
+            &self.low, &self.high, self.width, self.count, self.last, i,
+        );
+        (high << self.width | low, next << self.width | next_low)
+    }
+
+    /// How many values at the front are below a bound: all of them at once where the last one is.
+    pub fn below(&self, bound: u64) -> u64
+        ensures { result ≡ below_len bound self.now }
+    {
+        if self.count == 0 || self.last < bound {
+            return self.count;
+        }
+        below_by_halves(self, self.count, bound)
+    }
+
     /// How many values there are.
     pub fn len(&self) -> u64
         ensures value { result ≡ length self.now }
@@ -101,7 +124,8 @@ impl EliasFano {
         written
     }
 
-    /// The list of a count whose spelling stands at a place, and the place after it.
+    /// The list of a count whose spelling stands at a place, and the place after it. Places, that of a
+    /// fault too, are those of the slice that is handed in, which may begin and end inside a file.
     pub fn read(
         alloc: Global,
         bytes: &[u8],
@@ -126,4 +150,24 @@ impl EliasFano {
         let (list, rest) = read_list(alloc, at as u64, count, rest)?;
         Ok((list, bytes.len() - rest.len()))
     }
+}
+
+// How many values at the front are below a bound.
+fn below_by_halves(list: &EliasFano, count: u64, bound: u64) -> u64
+    requires all { count ≡ length list.now }
+    requires rising { rises 0 list.now ≡ true }
+    ensures { result ≡ below_len bound list.now }
+{
+    let mut first = 0;
+    let mut end = count;
+    while first < end {
+        let middle = first + (end - first) / 2;
+        let value = list.get(middle).unwrap();
+        if value < bound {
+            first = middle + 1;
+        } else {
+            end = middle;
+        }
+    }
+    first
 }

@@ -1,4 +1,6 @@
-ghost use Rattle.std.specs.Prelude.{◌≡◌, ◌+◌, ◌*◌, ◌/◌, ◌^◌, ◌<◌, ◌≤◌, ◌↔◌, ◌⊎◌, slice_index, IsTrue};
+// The parts of a value: what stands above its low bits, and these.
+ghost use Rattle.std.specs.Prelude.{◌≡◌, ◌+◌, ◌-◌, ◌*◌, ◌/◌, ◌^◌, ◌<◌, ◌≤◌, ◌↔◌, ◌⊎◌, length, take, drop, slice_index, IsTrue};
+ghost use Rattle.bit_vector.specs.Bits.{number_of};
 ghost use Rattle.elias_fano.specs.Spelling.{low_width, last_of, rises};
 ghost use Rattle.elias_fano.specs.Values.{values_of, AreParts};
 
@@ -14,6 +16,18 @@ pub fn width_of(count: u64, last: u64) -> u32
         return 0;
     }
     (last / count).ilog2()
+}
+
+// What stands above the low bits of the value whose one has that place, and its low bits.
+fn part_of(low: &BitVec, width: u32, i: u64, place: u64) -> (u64, u64)
+    requires wide { width < 64 }
+    requires few { i ≤ 2 ^ 36 }
+    requires within { i * width + width ≤ length low.now }
+    requires before { i ≤ place }
+    ensures high { result.0 ≡ place - i }
+    ensures low { result.1 ≡ number_of (take width (drop (i * width) low.now)) }
+{
+    (place - i, low.get_bits(i * u64::from(width), width))
 }
 
 /// What stands above the low bits of a value, and its low bits.
@@ -32,7 +46,33 @@ pub fn part_at(
     ensures low { result.1 < 2 ^ width }
 {
     let place = high.select1(i).unwrap();
-    (place - i, low.get_bits(i * u64::from(width), width))
+    part_of(low, width, i, place)
+}
+
+/// The parts of a value and of the next one, by one select.
+pub fn two_parts(
+    low: &BitVec,
+    high: &Selector,
+    width: u32,
+    count: u64,
+    last: u64,
+    i: u64,
+) -> ((u64, u64), (u64, u64))
+    requires parts { AreParts count last width low.now high.now }
+    requires within { i + 1 < count }
+    ensures value { result.0.0 * 2 ^ width + result.0.1
+        ≡ slice_index (values_of width low.now high.now) i }
+    ensures low { result.0.1 < 2 ^ width }
+    ensures next { result.1.0 * 2 ^ width + result.1.1
+        ≡ slice_index (values_of width low.now high.now) (i + 1) }
+    ensures next_low { result.1.1 < 2 ^ width }
+{
+    let place = high.select1(i).unwrap();
+    let next = high.next1(place + 1).unwrap();
+    (
+        part_of(low, width, i, place),
+        part_of(low, width, i + 1, next),
+    )
 }
 
 // Whether a value is below another: by what is above the low bits, and then by these.
@@ -42,20 +82,24 @@ fn is_below(here: u64, low_here: u64, before: u64, low_before: u64) -> bool
     here < before || here == before && low_here < low_before
 }
 
-/// Whether no value is below the one before it.
+/// Whether no value is below the one before it, by one walk over the high bits.
 pub fn do_rise(low: &BitVec, high: &Selector, width: u32, count: u64, last: u64) -> bool
     requires { AreParts count last width low.now high.now }
     ensures { result ≡ rises 0 (values_of width low.now high.now) }
 {
     let mut before = 0;
     let mut low_before = 0;
+    // The place behind the one before.
+    let mut from = 0;
     for i in 0..count {
-        let (here, low_here) = part_at(low, high, width, count, last, i);
+        let place = high.next1(from).unwrap();
+        let (here, low_here) = part_of(low, width, i, place);
         if is_below(here, low_here, before, low_before) {
             return false;
         }
         before = here;
         low_before = low_here;
+        from = place + 1;
     }
     true
 }

@@ -1,4 +1,5 @@
-ghost use Rattle.std.specs.Prelude.{◌≡◌, ◌+◌, ◌*◌, ◌^◌, ◌≤◌, ◌++◌, length, take, drop, OnOk};
+// Numbers and runs of bits from the front of bytes, and a whole list.
+ghost use Rattle.std.specs.Prelude.{◌≡◌, ◌+◌, ◌*◌, ◌^◌, ◌≤◌, ◌++◌, length, take, drop, OnOk, OnErr};
 ghost use Rattle.std.specs.Int.{w64, from_le_bytes};
 ghost use Rattle.elias_fano.specs.Spelling.{low_width, high_len};
 ghost use Rattle.elias_fano.specs.declared.fault.ReadErr.TheVariants.{Form};
@@ -10,6 +11,7 @@ use crate::parts::{do_end, do_rise, width_of};
 use bit_vector::{BitVec, NoMemory, Selector};
 use std::alloc::Global;
 
+// The first fault.
 fn form_fault(at: u64, kind: u8) -> ReadErr
     ensures { result ≡ Form (fault at kind) }
 {
@@ -35,8 +37,23 @@ pub fn read_number(at: u64, bytes: &[u8]) -> Result<(u64, &[u8]), ReadErr>
     Ok((number_in(bytes, 0), &bytes[8..]))
 }
 
-/// Appends as many numbers as are asked for; on want of memory a part of them.
+/// Appends as many numbers as are asked for; on want of memory none.
 pub fn append_words(words: &mut Vec<u64>, bytes: &[u8], count: usize) -> Result<(), NoMemory>
+    requires { 8 * count ≤ length bytes.now }
+    ensures ok { OnOk result (words.new.items ≡ words.old.items ++ words_in count bytes.now) }
+    ensures kept { take (length words.old.items) words.new.items ≡ words.old.items }
+    ensures err { OnErr result (words.new.items ≡ words.old.items) }
+{
+    let before = words.len();
+    let appended = push_words(words, bytes, count);
+    if appended.is_err() {
+        words.truncate(before);
+    }
+    appended
+}
+
+// The same; on want of memory a part of them.
+fn push_words(words: &mut Vec<u64>, bytes: &[u8], count: usize) -> Result<(), NoMemory>
     requires { 8 * count ≤ length bytes.now }
     ensures ok { OnOk result (words.new.items ≡ words.old.items ++ words_in count bytes.now) }
     ensures kept { take (length words.old.items) words.new.items ≡ words.old.items }
@@ -48,6 +65,7 @@ pub fn append_words(words: &mut Vec<u64>, bytes: &[u8], count: usize) -> Result<
     Ok(())
 }
 
+// The bits of a run that bytes begin with, and the bytes after them.
 fn run_of(alloc: Global, at: u64, len: u64, bytes: &[u8]) -> Result<(BitVec, &[u8]), ReadErr>
     requires most { len ≤ 2 ^ 42 }
     requires place { at ≤ 2 ^ 63 + 2 ^ 50 }

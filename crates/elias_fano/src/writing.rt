@@ -1,11 +1,26 @@
-ghost use Rattle.std.specs.Prelude.{◌≡◌, ◌++◌, length, take, OnOk};
+// Numbers and a whole list, appended to bytes.
+ghost use Rattle.std.specs.Prelude.{◌≡◌, ◌++◌, length, take, OnOk, OnErr};
 ghost use Rattle.std.specs.List.{flat_map};
 ghost use Rattle.elias_fano.specs.Spelling.{number, run};
 
 use bit_vector::{BitVec, NoMemory};
 
-/// Appends numbers; on want of memory a part of them.
+/// Appends numbers; on want of memory none.
 pub fn put_numbers(out: &mut Vec<u8>, numbers: &[u64]) -> Result<(), NoMemory>
+    ensures ok { OnOk result (out.new.items ≡ out.old.items ++ flat_map number numbers.now) }
+    ensures kept { take (length out.old.items) out.new.items ≡ out.old.items }
+    ensures err { OnErr result (out.new.items ≡ out.old.items) }
+{
+    let before = out.len();
+    let put = push_numbers(out, numbers);
+    if put.is_err() {
+        out.truncate(before);
+    }
+    put
+}
+
+// The same; on want of memory a part of them.
+fn push_numbers(out: &mut Vec<u8>, numbers: &[u64]) -> Result<(), NoMemory>
     ensures ok { OnOk result (out.new.items ≡ out.old.items ++ flat_map number numbers.now) }
     ensures kept { take (length out.old.items) out.new.items ≡ out.old.items }
 {

@@ -1,19 +1,20 @@
 -- Packed numbers, written and read.
-use Rattle.std.proofs.Common.{◌≡◌, ℕ, ◌+◌, ◌*◌, ◌-◌, ◌/◌, ◌%◌, ◌^◌, ◌<◌, ◌≤◌, max, Bool, true, false, eqb, ltb, List, ◌++◌, length, get_or, take, drop, Ok, Err, refl, sym, ap, ◌∙◌, subst, inl, inr, arith}
+use Rattle.std.proofs.Common.{◌≡◌, ℕ, ◌+◌, ◌*◌, ◌-◌, ◌/◌, ◌%◌, ◌^◌, ◌<◌, ◌≤◌, max, Bool, true, false, eqb, ltb, List, ◌++◌, length, get_or, take, drop, Ok}
+use Rattle.std.proofs.Common.{Err, refl, sym, ap, ◌∙◌, subst, inl, inr, arith}
 use Rattle.std.proofs.lemmas.Nat.{mul-le}
 use Rattle.std.proofs.lemmas.Bool.{cases_lt, cases_eq, lt-ltb, le-ltb, eq-eqb, ne_eqb}
 use Rattle.std.proofs.lemmas.List.{take_more, take_rest}
 use Rattle.std.specs.List.{flat_map}
 use Rattle.std.specs.Ordering.{nat_cmp, ord_max}
 use Rattle.bit_vector.specs.Bits.{bits_of, words_number, words_for, packed, IsPacked, bits_of_each}
-use Rattle.bit_vector.proofs.BitLemmas.{length-bits_of}
-use Rattle.bit_vector.proofs.ViewLemmas.{bits_read, packed-bits_of}
+use Rattle.bit_vector.proofs.CallerLemmas.{length-bits_of}
+use Rattle.bit_vector.proofs.CallerLemmas.{bits_read, packed-bits_of}
 use Rattle.elias_fano.specs.declared.fault.ReadErr.{ReadErr}
 use Rattle.elias_fano.specs.declared.fault.ReadErr.TheVariants as errors
 use Rattle.elias_fano.specs.Spelling.{number, run}
 use Rattle.elias_fano.specs.Reading.{Fails, fault, number_at, words_in}
-use Rattle.bit_vector.proofs.FieldLemmas.{fields_packed}
-use Rattle.elias_fano.proofs.FormLemmas.{IsBytes, packed_if_clear}
+use Rattle.bit_vector.proofs.CallerLemmas.{fields_packed}
+use Rattle.elias_fano.proofs.CallerLemmas.{IsBytes, packed_if_clear}
 use Rattle.pilot_codecs.specs.Spelling.{digits_of, greatest, compact_text}
 use Rattle.pilot_codecs.specs.Reading.{fields, fields_in, packed_at, compact_at}
 use Rattle.pilot_codecs.specs.Parts.{values_in, IsCompact}
@@ -41,7 +42,8 @@ pub field_at : (n count w i : ℕ) → i < count → n / 2 ^ (i * w) % 2 ^ w ≡
 field_at n count w i lt = bits_read n (count * w) (i * w) w (place_fits i w count lt) ∙ sym (get_or-fields count w (bits_of (count * w) n) i lt)
 
 -- the words that values are packed into hold these values, and no more words than they need
-pub compact_made : (vs : List ℕ) (w : ℕ) (ws : List ℕ) → length vs ≤ 2 ^ 30 → greatest vs < 2 ^ 64 → w ≡ digits_of (greatest vs) → ws ≡ packed (bits_of_each w vs) → IsCompact (length vs) w ws × (values_in (length vs) w ws ≡ vs)
+pub compact_made : (vs : List ℕ) (w : ℕ) (ws : List ℕ) → length vs ≤ 2 ^ 30 → greatest vs < 2 ^ 64 → w ≡ digits_of (greatest vs) →
+    ws ≡ packed (bits_of_each w vs) → IsCompact (length vs) w ws × (values_in (length vs) w ws ≡ vs)
 compact_made vs w ws few small wide e =
     let fits : greatest vs < 2 ^ w = subst (λ (j : ℕ). greatest vs < 2 ^ j) (sym wide) (lt-digits_of (greatest vs) small) in
     let p = fields_packed w (length vs * w) vs ws e refl in
@@ -72,43 +74,58 @@ value_within count w i at ws p lt e = omega (arith, e, place_fits i w count lt, 
 abbrev words_at : ℕ → ℕ → List ℕ → List ℕ
 words_at count w bytes = words_in (words_for (count * w)) bytes
 
-pub packed_at-short : (at count w size : ℕ) (bytes : List ℕ) → size ≡ words_for (count * w) → length bytes < 8 * size → packed_at at count w bytes ≡ Err (fault (at + 8) 1)
+pub packed_at-short : (at count w size : ℕ) (bytes : List ℕ) → size ≡ words_for (count * w) → length bytes < 8 * size →
+    packed_at at count w bytes ≡ Err (fault (at + 8) 1)
 unfolding packed_at
 packed_at-short at count w size bytes s lt = rw (lt-ltb (length bytes) (8 * words_for (count * w)) (omega (arith, s))) refl
 
-pub packed_at-width : (at count w size : ℕ) (bytes words : List ℕ) → size ≡ words_for (count * w) → 8 * size ≤ length bytes → words ≡ words_in size bytes
-    → (digits_of (greatest (fields count w (bits_of (count * w) (words_number words)))) ≡ w → ⊥) → packed_at at count w bytes ≡ Err (fault at 2)
+pub packed_at-width : (at count w size : ℕ) (bytes words : List ℕ) → size ≡ words_for (count * w) → 8 * size ≤ length bytes → words ≡ words_in size bytes →
+    (digits_of (greatest (fields count w (bits_of (count * w) (words_number words)))) ≡ w → ⊥) → packed_at at count w bytes ≡ Err (fault at 2)
 unfolding packed_at
 packed_at-width at count w size bytes words s le e other =
     let same : words ≡ words_at count w bytes = e ∙ ap (λ (k : ℕ). words_in k bytes) s in
-    let differs : eqb (digits_of (greatest (fields_in count w bytes))) w ≡ false = ne_eqb _ _ (λ d. other (ap (λ (ws : List ℕ). digits_of (greatest (fields count w (bits_of (count * w) (words_number ws))))) same ∙ d)) in
+    let differs : eqb (digits_of (greatest (fields_in count w bytes))) w ≡ false =
+    ne_eqb _ _ (λ d. other (ap (λ (ws : List ℕ). digits_of (greatest (fields count w (bits_of (count * w) (words_number ws))))) same ∙ d)) in
     rw (le-ltb (length bytes) (8 * words_for (count * w)) (omega (arith, s)), differs) refl
 
-pub packed_at-padding : (at count w size : ℕ) (bytes words : List ℕ) → size ≡ words_for (count * w) → 8 * size ≤ length bytes → words ≡ words_in size bytes → IsBytes bytes
-    → digits_of (greatest (fields count w (bits_of (count * w) (words_number words)))) ≡ w → (IsPacked words (count * w) → ⊥) → packed_at at count w bytes ≡ Err (fault (at + 8 + 8 * size - 8) 3)
+pub packed_at-padding : (at count w size : ℕ) (bytes words : List ℕ) → size ≡ words_for (count * w) → 8 * size ≤ length bytes → words ≡ words_in size bytes →
+    IsBytes bytes →
+    digits_of (greatest (fields count w (bits_of (count * w) (words_number words)))) ≡ w → (IsPacked words (count * w) → ⊥) →
+    packed_at at count w bytes ≡ Err (fault (at + 8 + 8 * size - 8) 3)
 unfolding packed_at
 packed_at-padding at count w size bytes words s le e fits d other =
     let len = count * w in
     let same : words ≡ words_at count w bytes = e ∙ ap (λ (k : ℕ). words_in k bytes) s in
     let n = words_number (words_at count w bytes) in
-    let equal : eqb (digits_of (greatest (fields_in count w bytes))) w ≡ true = eq-eqb _ _ (ap (λ (ws : List ℕ). digits_of (greatest (fields count w (bits_of len (words_number ws))))) (sym same) ∙ d) in
+    let equal : eqb (digits_of (greatest (fields_in count w bytes))) w ≡ true =
+    eq-eqb _ _ (ap (λ (ws : List ℕ). digits_of (greatest (fields count w (bits_of len (words_number ws))))) (sym same) ∙ d) in
     let past : ltb n (2 ^ len) ≡ false = elim (cases_lt n (2 ^ len)) [
       | inl lt ↦ absurd (other (subst (λ (ws : List ℕ). IsPacked ws len) (sym same) (packed_if_clear len bytes fits lt)))
       | inr ge ↦ le-ltb n (2 ^ len) ge
     ] in
     rw (le-ltb (length bytes) (8 * words_for len) (omega (arith, s)), equal, past, s) refl
 
-pub packed_at-ok : (at count w size : ℕ) (bytes words : List ℕ) (bits : List Bool) → size ≡ words_for (count * w) → 8 * size ≤ length bytes → words ≡ words_in size bytes
-    → digits_of (greatest (fields count w (bits_of (count * w) (words_number words)))) ≡ w → IsPacked words (count * w) → bits ≡ bits_of (count * w) (words_number words)
-    → packed_at at count w bytes ≡ Ok (fields count w bits, take (length bytes - 8 * size) (drop (8 * size) bytes))
+pub packed_at-ok : (at count w size : ℕ) (bytes words : List ℕ) (bits : List Bool) → size ≡ words_for (count * w) → 8 * size ≤ length bytes →
+    words ≡ words_in size bytes →
+    digits_of (greatest (fields count w (bits_of (count * w) (words_number words)))) ≡ w → IsPacked words (count * w) →
+    bits ≡ bits_of (count * w) (words_number words) →
+    packed_at at count w bytes ≡ Ok (fields count w bits, take (length bytes - 8 * size) (drop (8 * size) bytes))
 unfolding packed_at
 packed_at-ok at count w size bytes words bits s le e d p b =
     let len = count * w in
     let same : words ≡ words_at count w bytes = e ∙ ap (λ (k : ℕ). words_in k bytes) s in
-    let equal : eqb (digits_of (greatest (fields_in count w bytes))) w ≡ true = eq-eqb _ _ (ap (λ (ws : List ℕ). digits_of (greatest (fields count w (bits_of len (words_number ws))))) (sym same) ∙ d) in
+    let equal : eqb (digits_of (greatest (fields_in count w bytes))) w ≡ true =
+    eq-eqb _ _ (ap (λ (ws : List ℕ). digits_of (greatest (fields count w (bits_of len (words_number ws))))) (sym same) ∙ d) in
     let clear : ltb (words_number (words_at count w bytes)) (2 ^ len) ≡ true = lt-ltb _ _ (subst (λ (ws : List ℕ). words_number ws < 2 ^ len) same p.clear) in
-    let value : fields_in count w bytes ≡ fields count w bits = ap (λ (ws : List ℕ). fields count w (bits_of len (words_number ws))) (sym same) ∙ ap (λ (bs : List Bool). fields count w bs) (sym b) in
-    rw (le-ltb (length bytes) (8 * words_for len) (omega (arith, s)), equal, clear, take_rest bytes (8 * size), s) (ap (λ (xs : List ℕ). Ok (xs, drop (8 * words_for len) bytes)) value)
+    let value : fields_in count w bytes ≡ fields count w bits = ap (λ (ws : List ℕ). fields count w (bits_of len (words_number ws))) (sym same)
+    ∙ ap (λ (bs : List Bool). fields count w bs) (sym b) in
+    rw (
+      le-ltb (length bytes) (8 * words_for len) (omega (arith, s)),
+      equal,
+      clear,
+      take_rest bytes (8 * size),
+      s,
+    ) (ap (λ (xs : List ℕ). Ok (xs, drop (8 * words_for len) bytes)) value)
 
 -- ---- reading from the width on
 
@@ -117,7 +134,8 @@ unfolding compact_at
 compact_at-number errors.NoMemory at count bytes h = tt
 compact_at-number (errors.Form f) at count bytes h = rw h refl
 
-pub compact_at-width : (at count w : ℕ) (bytes rest : List ℕ) → number_at at bytes ≡ Ok (w, rest) → ((0 < w) × (w ≤ 64) → ⊥) → compact_at at count bytes ≡ Err (fault at 2)
+pub compact_at-width : (at count w : ℕ) (bytes rest : List ℕ) → number_at at bytes ≡ Ok (w, rest) → ((0 < w) × (w ≤ 64) → ⊥) →
+    compact_at at count bytes ≡ Err (fault at 2)
 unfolding compact_at
 compact_at-width at count w bytes rest n other =
     elim (cases_eq w 0) [
@@ -129,6 +147,7 @@ compact_at-width at count w bytes rest n other =
           ]
     ]
 
-pub compact_at-packed : (at count w : ℕ) (bytes rest : List ℕ) → number_at at bytes ≡ Ok (w, rest) → (w ≡ 0 → ⊥) → w ≤ 64 → compact_at at count bytes ≡ packed_at at count w rest
+pub compact_at-packed : (at count w : ℕ) (bytes rest : List ℕ) → number_at at bytes ≡ Ok (w, rest) → (w ≡ 0 → ⊥) → w ≤ 64 →
+    compact_at at count bytes ≡ packed_at at count w rest
 unfolding compact_at
 compact_at-packed at count w bytes rest n some le = rw (n, ne_eqb w 0 some, le-ltb 64 w le) refl

@@ -1,8 +1,10 @@
 -- The dictionary of a list, and a list from a dictionary.
-use Rattle.std.proofs.Common.{◌≡◌, ℕ, zero, suc, ◌+◌, ◌<◌, ◌≤◌, Bool, true, false, cond, eqb, ltb, List, [], ◌∷◌, ◌++◌, length, get_or, map, Option, Some, refl, sym, ap, ◌∙◌, subst, inl, inr, arith}
+use Rattle.std.proofs.Common.{◌≡◌, ℕ, zero, suc, ◌+◌, ◌<◌, ◌≤◌, Bool, true, false, cond, eqb, ltb, List, [], ◌∷◌, ◌++◌, length, get_or, map, Option, Some}
+use Rattle.std.proofs.Common.{refl, sym, ap, ◌∙◌, subst, inl, inr, arith}
 use Rattle.std.specs.Prelude.{option_map}
 use Rattle.std.specs.List.{flat_map, slice_get}
-use Rattle.std.proofs.lemmas.Bool.{cases_lt, cases_eq, cases_Bool, or_cases, ltb-true, lt-ltb, le-ltb, eq-eqb, ne_eqb, eqb-true, false≢true, both_ways, or_parts}
+use Rattle.std.proofs.lemmas.Bool.{cases_lt, cases_eq, cases_Bool, or_cases, ltb-true, lt-ltb, le-ltb, eq-eqb, ne_eqb, eqb-true, false≢true, both_ways}
+use Rattle.std.proofs.lemmas.Bool.{or_parts}
 use Rattle.std.proofs.lemmas.List.{length-map, get_or-map}
 use Rattle.elias_fano.specs.Spelling.{number, is_among}
 use Rattle.pilot_codecs.specs.Spelling.{greatest, present_from, distinct, index_in, compact_text, dict_text}
@@ -105,11 +107,15 @@ present_rising at (suc n) [] h lt = none_present (at + 1) n
 present_rising at (suc n) (d ∷ ds) h lt =
     elim (cases_lt at d) [
       | inl less ↦
-          rw (ne_eqb at d (λ e. omega (arith, e)), not_among (suc d) at ds h.1 (omega arith)) (present_rising (at + 1) n (d ∷ ds) (omega arith, h.1) (omega (arith, lt)))
+          rw (ne_eqb at d (λ e. omega (arith, e)), not_among (suc d) at ds h.1 (omega arith)) (present_rising (at + 1) n (d ∷ ds) (
+            omega arith,
+            h.1,
+          ) (omega (arith, lt)))
       | inr ge ↦
           let here : at ≡ d = omega (arith, h.0) in
           let next : suc d ≡ at + 1 = omega (arith, here) in
-          let rest : present_from (at + 1) n (d ∷ ds) ≡ ds = present_passed (at + 1) n d ds (omega arith) ∙ present_rising (at + 1) n ds (subst (λ (k : ℕ). Up k ds) next h.1) (omega (arith, lt)) in
+          let rest : present_from (at + 1) n (d ∷ ds) ≡ ds = present_passed (at + 1) n d ds (omega arith)
+          ∙ present_rising (at + 1) n ds (subst (λ (k : ℕ). Up k ds) next h.1) (omega (arith, lt)) in
           rw (eq-eqb at d here) (ap (λ (x : ℕ). x ∷ present_from (at + 1) n (d ∷ ds)) here ∙ ap (λ (xs : List ℕ). d ∷ xs) rest)
     ]
 
@@ -145,7 +151,8 @@ among_present at (suc n) x vs low high =
       | inl e ↦
           elim (cases_Bool (is_among at vs)) [
             | inl t ↦ rw (t, eq-eqb x at e) (sym (ap (λ (y : ℕ). is_among y vs) e ∙ t))
-            | inr f ↦ rw f (not_among (suc at) x (present_from (at + 1) n vs) (up_present (suc at) (at + 1) n vs (omega arith)) (omega (arith, e)) ∙ sym (ap (λ (y : ℕ). is_among y vs) e ∙ f))
+            | inr f ↦ rw f (not_among (suc at) x (present_from (at + 1) n vs) (up_present (suc at) (at + 1) n vs (omega arith)) (omega (arith, e))
+                ∙ sym (ap (λ (y : ℕ). is_among y vs) e ∙ f))
           ]
       | inr ne ↦
           let rest = among_present (at + 1) n x vs (omega (arith, ne)) (omega arith) in
@@ -244,7 +251,8 @@ below_map n f (v ∷ vs) h = rw (lt-ltb (f v) n (h 0 (omega arith))) (below_map 
 
 map_back : (g f : ℕ → ℕ) (vs : List ℕ) → ((i : ℕ) → i < length vs → g (f (get_or vs i 0)) ≡ get_or vs i 0) → map g (map f vs) ≡ vs
 map_back g f [] h = refl
-map_back g f (v ∷ vs) h = ap (λ (x : ℕ). x ∷ map g (map f vs)) (h 0 (omega arith)) ∙ ap (λ (xs : List ℕ). v ∷ xs) (map_back g f vs (λ i lt. h (suc i) (omega arith)))
+map_back g f (v ∷ vs) h = ap (λ (x : ℕ). x ∷ map g (map f vs)) (h 0 (omega arith))
+    ∙ ap (λ (xs : List ℕ). v ∷ xs) (map_back g f vs (λ i lt. h (suc i) (omega arith)))
 
 -- what a list has for a dictionary and for indexes
 pub record IsDictOf (vs ds places : List ℕ) : Type 0 where
@@ -280,16 +288,19 @@ dict_same ds places d =
           (λ t.
           let p = index_of_among x vs t in
           let lt : p.0 < length places = omega (arith, p.1, n) in
-          among_by x ds (get_or places p.0 0) (are_below-at (length ds) places p.0 d.below lt) (sym (get_or-map (λ p. get_or ds p 0) places p.0 0 0 lt) ∙ p.2))),
+          among_by x ds (get_or places p.0 0) (are_below-at (length ds) places p.0 d.below lt) (sym (get_or-map (λ p. get_or ds p 0) places p.0 0 0 lt)
+          ∙ p.2))),
       map_back (index_in ds) (λ p. get_or ds p 0) places (λ i lt. index_in-at 0 ds (get_or places i 0) up (are_below-at (length ds) places i d.below lt)),
     )
 
-pub dict_text-looked_up : (ds places : List ℕ) → IsDict ds places → dict_text (looked_up ds places) ≡ number (length ds) ++ flat_map number ds ++ compact_text places
+pub dict_text-looked_up : (ds places : List ℕ) → IsDict ds places →
+    dict_text (looked_up ds places) ≡ number (length ds) ++ flat_map number ds ++ compact_text places
 unfolding dict_text
 dict_text-looked_up ds places d =
     let vs = looked_up ds places in
     let p = dict_same ds places d in
-    ap (λ (es : List ℕ). number (length es) ++ flat_map number es ++ compact_text (map (index_in es) vs)) p.0 ∙ ap (λ (ps : List ℕ). number (length ds) ++ flat_map number ds ++ compact_text ps) p.1
+    ap (λ (es : List ℕ). number (length es) ++ flat_map number es ++ compact_text (map (index_in es) vs)) p.0
+    ∙ ap (λ (ps : List ℕ). number (length ds) ++ flat_map number ds ++ compact_text ps) p.1
 
 -- ---- one value
 
@@ -298,12 +309,14 @@ slice_get-map f [] i = refl
 slice_get-map f (x ∷ xs) zero = refl
 slice_get-map f (x ∷ xs) (suc i) = slice_get-map f xs i
 
-pub slice_get-looked_up : (ds places : List ℕ) (i : ℕ) (r : Option ℕ) → r ≡ slice_get places i → slice_get (looked_up ds places) i ≡ option_map (λ p. get_or ds p 0) r
+pub slice_get-looked_up : (ds places : List ℕ) (i : ℕ) (r : Option ℕ) → r ≡ slice_get places i →
+    slice_get (looked_up ds places) i ≡ option_map (λ p. get_or ds p 0) r
 slice_get-looked_up ds places i r e = slice_get-map (λ p. get_or ds p 0) places i ∙ ap (λ (o : Option ℕ). option_map (λ p. get_or ds p 0) o) (sym e)
 
 -- a place that is got is one of those that stand there
 pub got_below : (n : ℕ) (places : List ℕ) (i p : ℕ) → are_below n places ≡ true → Some p ≡ slice_get places i → p < n
 unfolding are_below
 got_below n [] i p h e = absurd cc
-got_below n (q ∷ places) zero p h e = let same : p ≡ q = cc in omega (arith, ltb-true q n (Rattle.std.proofs.lemmas.Bool.and_parts (ltb q n) (are_below n places) h).0, same)
+got_below n (q ∷ places) zero p h e = let same : p ≡ q = cc in
+    omega (arith, ltb-true q n (Rattle.std.proofs.lemmas.Bool.and_parts (ltb q n) (are_below n places) h).0, same)
 got_below n (q ∷ places) (suc i) p h e = got_below n places i p (Rattle.std.proofs.lemmas.Bool.and_parts (ltb q n) (are_below n places) h).1 e

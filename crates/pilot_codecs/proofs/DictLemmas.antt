@@ -1,12 +1,13 @@
 -- A dictionary that rises, and indexes into it.
-use Rattle.std.proofs.Common.{◌≡◌, ℕ, zero, suc, ◌+◌, ◌<◌, ◌≤◌, Bool, true, false, eqb, ltb, List, [], ◌∷◌, length, get_or, take, drop, set, Some, refl, sym, ap, ◌∙◌, inl, inr, arith}
+use Rattle.std.proofs.Common.{◌≡◌, ℕ, zero, suc, ◌+◌, ◌<◌, ◌≤◌, Bool, true, false, eqb, ltb, List, [], ◌∷◌, length, get_or, take, drop, set, Some, refl, sym}
+use Rattle.std.proofs.Common.{ap, ◌∙◌, inl, inr, arith}
 use Rattle.std.proofs.Math.Bool.{beq}
 use Rattle.std.specs.Prelude.{not, ◌||◌}
 use Rattle.std.specs.List.{list_any}
 use Rattle.std.proofs.lemmas.Bool.{false≢true, cases_lt, cases_eq, and_parts, and_from, ltb-true, lt-ltb, le-ltb, eq-eqb, ne_eqb}
 use Rattle.std.proofs.lemmas.List.{drop_more, take_more, get_or-set_same, get_or-set_other}
 use Rattle.elias_fano.specs.Spelling.{is_among}
-use Rattle.elias_fano.proofs.BuildLemmas.{is_among-push}
+use Rattle.elias_fano.proofs.CallerLemmas.{is_among-push}
 use Rattle.pilot_codecs.specs.Reading.{rise_from, rise_len, are_below, are_used}
 
 pub same_bool : (b c : Bool) → (b ≡ true → c ≡ true) → (c ≡ true → b ≡ true) → b ≡ c
@@ -114,16 +115,19 @@ or_no : (b : Bool) → (b || false) ≡ b
 or_no true = refl
 or_no false = refl
 
-pub marked_more : (used : List Bool) (ps : List ℕ) (i p size : ℕ) → length used ≡ size → i < length ps → p ≡ get_or ps i 0 → p < size → ((d : ℕ) → d < size → get_or used d false ≡ is_among d (take i ps))
-    → (d : ℕ) → d < size → get_or (set used p true) d false ≡ is_among d (take (i + 1) ps)
+pub marked_more : (used : List Bool) (ps : List ℕ) (i p size : ℕ) → length used ≡ size → i < length ps → p ≡ get_or ps i 0 → p < size →
+    ((d : ℕ) → d < size → get_or used d false ≡ is_among d (take i ps)) →
+    (d : ℕ) → d < size → get_or (set used p true) d false ≡ is_among d (take (i + 1) ps)
 marked_more used ps i p size n lt e small so_far d ok =
     let more = is_among-more d ps i lt ∙ ap (λ (x : ℕ). is_among d (take i ps) || eqb d x) (sym e) in
     elim (cases_eq d p) [
       | inl same ↦
           let here : get_or (set used p true) p false ≡ true = get_or-set_same used p true false (omega (arith, n)) in
-          ap (λ (x : ℕ). get_or (set used p true) x false) same ∙ here ∙ sym (more ∙ ap (λ (b : Bool). is_among d (take i ps) || b) (eq-eqb d p same) ∙ or_yes (is_among d (take i ps)))
+          ap (λ (x : ℕ). get_or (set used p true) x false) same ∙ here
+          ∙ sym (more ∙ ap (λ (b : Bool). is_among d (take i ps) || b) (eq-eqb d p same) ∙ or_yes (is_among d (take i ps)))
       | inr ne ↦
-          get_or-set_other used p d true false ne ∙ so_far d ok ∙ sym (more ∙ ap (λ (b : Bool). is_among d (take i ps) || b) (ne_eqb d p ne) ∙ or_no (is_among d (take i ps)))
+          get_or-set_other used p d true false ne ∙ so_far d ok
+          ∙ sym (more ∙ ap (λ (b : Bool). is_among d (take i ps) || b) (ne_eqb d p ne) ∙ or_no (is_among d (take i ps)))
     ]
 
 rise_from-le : (b : ℕ) (ds : List ℕ) → rise_from b ds ≤ length ds

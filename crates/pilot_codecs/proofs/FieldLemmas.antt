@@ -1,13 +1,14 @@
 -- Numbers of one width, and the width of the greatest.
-use Rattle.std.proofs.Common.{◌≡◌, ℕ, zero, suc, ◌+◌, ◌*◌, ◌/◌, ◌^◌, ◌<◌, ◌≤◌, max, Bool, List, [], ◌∷◌, ◌++◌, length, get_or, take, drop, refl, sym, ap, ◌∙◌, inl, inr, arith}
+use Rattle.std.proofs.Common.{◌≡◌, ℕ, zero, suc, ◌+◌, ◌*◌, ◌/◌, ◌^◌, ◌<◌, ◌≤◌, max, Bool, List, [], ◌∷◌, ◌++◌, length, get_or, take, drop, refl, sym, ap, ◌∙◌}
+use Rattle.std.proofs.Common.{inl, inr, arith}
 use Rattle.std.proofs.Math.Nat.{mod-eq_of_lt}
 use Rattle.std.proofs.lemmas.Bool.{cases_lt, lt-ltb, le-ltb}
 use Rattle.std.proofs.Math.Nat.{pow-suc}
 use Rattle.std.proofs.lemmas.List.{drop-drop, take_at, drop_at, take-append-drop, length-take, length-drop, nil_from_length}
 use Rattle.bit_vector.specs.Bits.{bits_of, number_of, bits_of_each}
-use Rattle.bit_vector.proofs.BitLemmas.{length-bits_of, bits_of-number_of, number_of-bits_of}
+use Rattle.bit_vector.proofs.CallerLemmas.{length-bits_of, bits_of-number_of, number_of-bits_of}
 use Rattle.elias_fano.specs.Spelling.{log2_within}
-use Rattle.elias_fano.proofs.WidthLemmas.{log2_is, log2-le}
+use Rattle.elias_fano.proofs.CallerLemmas.{log2_is, log2-le}
 use Rattle.pilot_codecs.specs.Spelling.{digits_of, greatest}
 use Rattle.pilot_codecs.specs.Reading.{fields}
 
@@ -21,7 +22,8 @@ below_digits (suc most) n lt =
       | inl small ↦ rw (lt-ltb n 2 small) (omega arith)
       | inr large ↦
           let half = below_digits most (n / 2) (omega (arith, pow-suc 2 (suc most))) in
-          let more : 2 ^ (log2_within most (n / 2) + 1 + 1) ≡ 2 ^ (log2_within most (n / 2) + 1) * 2 = ap (λ (j : ℕ). 2 ^ j) (omega arith) ∙ pow-suc 2 (log2_within most (n / 2) + 1) in
+          let more : 2 ^ (log2_within most (n / 2) + 1 + 1) ≡ 2 ^ (log2_within most (n / 2) + 1) * 2 = ap (λ (j : ℕ). 2 ^ j) (omega arith)
+          ∙ pow-suc 2 (log2_within most (n / 2) + 1) in
           rw (le-ltb n 2 large) (omega (arith, half, more))
     ]
 
@@ -79,14 +81,16 @@ get_or-fields zero w bits i lt = absurd (omega arith)
 get_or-fields (suc n) w bits zero lt = let start : 0 * w ≡ 0 = omega arith in rw start refl
 get_or-fields (suc n) w bits (suc i) lt =
     let place : w + i * w ≡ suc i * w = omega arith in
-    get_or-fields n w (drop w bits) i (omega arith) ∙ ap (λ (bs : List Bool). number_of (take w bs)) (drop-drop (i * w) w bits ∙ ap (λ (j : ℕ). drop j bits) place)
+    get_or-fields n w (drop w bits) i (omega arith)
+    ∙ ap (λ (bs : List Bool). number_of (take w bs)) (drop-drop (i * w) w bits ∙ ap (λ (j : ℕ). drop j bits) place)
 
 pub bits_of_each-fields : (n w : ℕ) (bits : List Bool) → length bits ≡ n * w → bits_of_each w (fields n w bits) ≡ bits
 unfolding fields bits_of_each
 bits_of_each-fields zero w bits e = sym (nil_from_length bits (omega (arith, e)))
 bits_of_each-fields (suc n) w bits e =
     let size : length (take w bits) ≡ w = omega (arith, length-take w bits, e) in
-    let first : bits_of w (number_of (take w bits)) ≡ take w bits = ap (λ (j : ℕ). bits_of j (number_of (take w bits))) (sym size) ∙ bits_of-number_of (take w bits) in
+    let first : bits_of w (number_of (take w bits)) ≡ take w bits = ap (λ (j : ℕ). bits_of j (number_of (take w bits))) (sym size)
+    ∙ bits_of-number_of (take w bits) in
     let others = bits_of_each-fields n w (drop w bits) (omega (arith, length-drop w bits, e)) in
     ap (λ (bs : List Bool). bs ++ bits_of_each w (fields n w (drop w bits))) first ∙ ap (λ (bs : List Bool). take w bits ++ bs) others ∙ take-append-drop w bits
 

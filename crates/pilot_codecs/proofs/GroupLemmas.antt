@@ -1,13 +1,14 @@
 -- Groups of a list, and reading them one after the other, as a loop does.
-use Rattle.std.proofs.Common.{◌≡◌, ℕ, zero, suc, ◌+◌, ◌*◌, ◌-◌, ◌/◌, ◌%◌, ◌<◌, ◌≤◌, min, List, [], ◌∷◌, ◌++◌, length, get_or, take, drop, Some, Result, Ok, Err, refl, sym, ap, ◌∙◌, append_assoc, arith}
+use Rattle.std.proofs.Common.{◌≡◌, ℕ, zero, suc, ◌+◌, ◌*◌, ◌-◌, ◌/◌, ◌%◌, ◌<◌, ◌≤◌, min, List, [], ◌∷◌, ◌++◌, length, get_or, take, drop, Some, Result, Ok}
+use Rattle.std.proofs.Common.{Err, refl, sym, ap, ◌∙◌, append_assoc, arith}
 use Rattle.std.specs.List.{flat_map, slice_get}
 use Rattle.std.proofs.lemmas.List.{append-nil, drop-drop, take-append-drop, drop_all, length-drop, length-take, get_or_default}
 use Rattle.elias_fano.specs.declared.fault.FormFault.{FormFault}
 use Rattle.elias_fano.specs.declared.fault.ReadErr.{ReadErr}
 use Rattle.elias_fano.specs.declared.fault.ReadErr.TheVariants as errors
 use Rattle.elias_fano.specs.Reading.{◌>>=◌, Fails}
-use Rattle.elias_fano.proofs.LawLemmas.{bind_ok, ok_is}
-use Rattle.elias_fano.proofs.ValueLemmas.{slice_get-is}
+use Rattle.elias_fano.proofs.CallerLemmas.{bind_ok, ok_is}
+use Rattle.elias_fano.proofs.CallerLemmas.{slice_get-is}
 use Rattle.pilot_codecs.specs.Spelling.{groups_for, groups_of}
 use Rattle.pilot_codecs.specs.Reading.{compact_at, groups_at}
 use Rattle.pilot_codecs.specs.Parts.{group_more_at}
@@ -23,9 +24,11 @@ length-groups_of (suc n) vs = ap suc (length-groups_of n (drop 256 vs))
 pub flat-groups_of : (n : ℕ) (vs : List ℕ) → length vs ≤ 256 * n → flat_map (λ g. g) (groups_of n vs) ≡ vs
 unfolding groups_of
 flat-groups_of zero vs le = sym (Rattle.std.proofs.lemmas.List.nil_from_length vs (omega (arith, le)))
-flat-groups_of (suc n) vs le = ap (λ (xs : List ℕ). take 256 vs ++ xs) (flat-groups_of n (drop 256 vs) (omega (arith, length-drop 256 vs))) ∙ take-append-drop 256 vs
+flat-groups_of (suc n) vs le = ap (λ (xs : List ℕ). take 256 vs ++ xs) (flat-groups_of n (drop 256 vs) (omega (arith, length-drop 256 vs)))
+    ∙ take-append-drop 256 vs
 
-pub groups_of-more : (vs : List ℕ) → 0 < length vs → groups_of (groups_for (length vs)) vs ≡ take 256 vs ∷ groups_of (groups_for (length (drop 256 vs))) (drop 256 vs)
+pub groups_of-more : (vs : List ℕ) → 0 < length vs →
+    groups_of (groups_for (length vs)) vs ≡ take 256 vs ∷ groups_of (groups_for (length (drop 256 vs))) (drop 256 vs)
 unfolding groups_of
 groups_of-more vs lt =
     ap (λ (k : ℕ). groups_of k vs) (groups_for-more (length vs) lt)
@@ -55,22 +58,28 @@ slice_get-drop (suc k) [] r i e = refl
 slice_get-drop (suc k) (x ∷ xs) r zero e = absurd (omega arith)
 slice_get-drop (suc k) (x ∷ xs) r (suc i) e = slice_get-drop k xs r i (omega arith)
 
-group_is : (groups : List (List ℕ)) (vs : List ℕ) (i : ℕ) → groups_of (groups_for (length vs)) vs ≡ groups → i < length vs → get_or groups (i / 256) [] ≡ take 256 (drop (256 * (i / 256)) vs)
-group_is groups vs i cut lt = ap (λ (gs : List (List ℕ)). get_or gs (i / 256) []) (sym cut) ∙ get_or-groups_of (groups_for (length vs)) vs (i / 256) [] (omega arith)
+group_is : (groups : List (List ℕ)) (vs : List ℕ) (i : ℕ) → groups_of (groups_for (length vs)) vs ≡ groups → i < length vs →
+    get_or groups (i / 256) [] ≡ take 256 (drop (256 * (i / 256)) vs)
+group_is groups vs i cut lt = ap (λ (gs : List (List ℕ)). get_or gs (i / 256) []) (sym cut)
+    ∙ get_or-groups_of (groups_for (length vs)) vs (i / 256) [] (omega arith)
 
 -- a value has a place in its group
-pub within_group : (groups : List (List ℕ)) (vs : List ℕ) (i : ℕ) → groups_of (groups_for (length vs)) vs ≡ groups → i < length vs → i % 256 < length (get_or groups (i / 256) [])
+pub within_group : (groups : List (List ℕ)) (vs : List ℕ) (i : ℕ) → groups_of (groups_for (length vs)) vs ≡ groups → i < length vs →
+    i % 256 < length (get_or groups (i / 256) [])
 within_group groups vs i cut lt =
     let g = i / 256 in
-    let size : length (get_or groups g []) ≡ min 256 (length (drop (256 * g) vs)) = ap length (group_is groups vs i cut lt) ∙ length-take 256 (drop (256 * g) vs) in
+    let size : length (get_or groups g []) ≡ min 256 (length (drop (256 * g) vs)) = ap length (group_is groups vs i cut lt)
+    ∙ length-take 256 (drop (256 * g) vs) in
     omega (arith, size, length-drop (256 * g) vs)
 
 -- a value by its group and its place in the group
-pub get_or-group : (groups : List (List ℕ)) (vs : List ℕ) (i : ℕ) → groups_of (groups_for (length vs)) vs ≡ groups → i < length vs → Some (get_or (get_or groups (i / 256) []) (i % 256) 0) ≡ slice_get vs i
+pub get_or-group : (groups : List (List ℕ)) (vs : List ℕ) (i : ℕ) → groups_of (groups_for (length vs)) vs ≡ groups → i < length vs →
+    Some (get_or (get_or groups (i / 256) []) (i % 256) 0) ≡ slice_get vs i
 get_or-group groups vs i cut lt =
     let g = i / 256 in
     let r = i % 256 in
-    sym (slice_get-is (get_or groups g []) r 0 (within_group groups vs i cut lt)) ∙ ap (λ (xs : List ℕ). slice_get xs r) (group_is groups vs i cut lt) ∙ slice_get-take 256 (drop (256 * g) vs) r (omega arith) ∙ slice_get-drop (256 * g) vs r i (omega arith)
+    sym (slice_get-is (get_or groups g []) r 0 (within_group groups vs i cut lt)) ∙ ap (λ (xs : List ℕ). slice_get xs r) (group_is groups vs i cut lt)
+    ∙ slice_get-take 256 (drop (256 * g) vs) r (omega arith) ∙ slice_get-drop (256 * g) vs r i (omega arith)
 
 -- ---- reading
 
@@ -78,27 +87,31 @@ get_or-group groups vs i cut lt =
 abbrev pub with_front : List (List ℕ) → Result (List (List ℕ) × List ℕ) FormFault → Result (List (List ℕ) × List ℕ) FormFault
 with_front front read = read >>= λ x. Ok (front ++ x.0, x.1)
 
-regroup : (front : List (List ℕ)) (g : List ℕ) (read : Result (List (List ℕ) × List ℕ) FormFault) → with_front front (read >>= λ x. Ok (g ∷ x.0, x.1)) ≡ with_front (front ++ g ∷ []) read
+regroup : (front : List (List ℕ)) (g : List ℕ) (read : Result (List (List ℕ) × List ℕ) FormFault) →
+    with_front front (read >>= λ x. Ok (g ∷ x.0, x.1)) ≡ with_front (front ++ g ∷ []) read
 regroup front g (Ok x) = ap (λ (gs : List (List ℕ)). Ok (gs, x.1)) (simp append_assoc)
 regroup front g (Err f) = refl
 
 size_is : (left size : ℕ) → 0 < left → size ≡ min 256 left → left - size ≡ left - 256
 size_is left size lt e = omega arith
 
-pub goes_on : (front : List (List ℕ)) (left place size : ℕ) (bytes g after : List ℕ) (total : Result (List (List ℕ) × List ℕ) FormFault) → 0 < left → size ≡ min 256 left → compact_at place size bytes ≡ Ok (g, after)
-    → with_front front (groups_at (groups_for left) place left bytes) ≡ total
-    → with_front (front ++ g ∷ []) (groups_at (groups_for (left - size)) (place + (length bytes - length after)) (left - size) after) ≡ total
+pub goes_on : (front : List (List ℕ)) (left place size : ℕ) (bytes g after : List ℕ) (total : Result (List (List ℕ) × List ℕ) FormFault) → 0 < left →
+    size ≡ min 256 left → compact_at place size bytes ≡ Ok (g, after) →
+    with_front front (groups_at (groups_for left) place left bytes) ≡ total →
+    with_front (front ++ g ∷ []) (groups_at (groups_for (left - size)) (place + (length bytes - length after)) (left - size) after) ≡ total
 unfolding groups_at
 goes_on front left place size bytes g after total lt s h so_far =
     let k = groups_for-more left lt in
     let next = size_is left size lt s in
     let read : compact_at place (min 256 left) bytes ≡ Ok (g, after) = ap (λ (j : ℕ). compact_at place j bytes) (sym s) ∙ h in
-    let one : with_front front (groups_at (groups_for left) place left bytes) ≡ with_front (front ++ g ∷ []) (groups_at (groups_for (left - 256)) (place + (length bytes - length after)) (left - 256) after) =
+    let one : with_front front (groups_at (groups_for left) place left bytes)
+    ≡ with_front (front ++ g ∷ []) (groups_at (groups_for (left - 256)) (place + (length bytes - length after)) (left - 256) after) =
     rw (k, read) (regroup front g (groups_at (groups_for (left - 256)) (place + (length bytes - length after)) (left - 256) after)) in
     ap (λ (j : ℕ). with_front (front ++ g ∷ []) (groups_at (groups_for j) (place + (length bytes - length after)) j after)) next ∙ sym one ∙ so_far
 
-pub ends : (e : ReadErr) (front : List (List ℕ)) (left place size : ℕ) (bytes : List ℕ) (total : Result (List (List ℕ) × List ℕ) FormFault) → 0 < left → size ≡ min 256 left → Fails e (compact_at place size bytes)
-    → with_front front (groups_at (groups_for left) place left bytes) ≡ total → Fails e total
+pub ends : (e : ReadErr) (front : List (List ℕ)) (left place size : ℕ) (bytes : List ℕ) (total : Result (List (List ℕ) × List ℕ) FormFault) → 0 < left →
+    size ≡ min 256 left → Fails e (compact_at place size bytes) →
+    with_front front (groups_at (groups_for left) place left bytes) ≡ total → Fails e total
 unfolding groups_at
 ends errors.NoMemory front left place size bytes total lt s h so_far = tt
 ends (errors.Form f) front left place size bytes total lt s h so_far =
@@ -107,11 +120,13 @@ ends (errors.Form f) front left place size bytes total lt s h so_far =
     let one : with_front front (groups_at (groups_for left) place left bytes) ≡ Err f = rw (k, read) refl in
     sym so_far ∙ one
 
-pub is_done : (front : List (List ℕ)) (left place : ℕ) (bytes : List ℕ) (total : Result (List (List ℕ) × List ℕ) FormFault) → left ≡ 0 → with_front front (groups_at (groups_for left) place left bytes) ≡ total → total ≡ Ok (front, bytes)
+pub is_done : (front : List (List ℕ)) (left place : ℕ) (bytes : List ℕ) (total : Result (List (List ℕ) × List ℕ) FormFault) → left ≡ 0 →
+    with_front front (groups_at (groups_for left) place left bytes) ≡ total → total ≡ Ok (front, bytes)
 unfolding groups_at
 is_done front left place bytes total e so_far =
     let k : groups_for left ≡ 0 = omega arith in
-    let one : with_front front (groups_at (groups_for left) place left bytes) ≡ Ok (front, bytes) = rw k (ap (λ (gs : List (List ℕ)). Ok (gs, bytes)) (append-nil front)) in
+    let one : with_front front (groups_at (groups_for left) place left bytes) ≡ Ok (front, bytes) =
+    rw k (ap (λ (gs : List (List ℕ)). Ok (gs, bytes)) (append-nil front)) in
     sym so_far ∙ one
 
 -- ---- a group more
@@ -121,16 +136,23 @@ pub record IsMore (groups new : List (List ℕ)) (at count : ℕ) (bytes after :
   pub read : compact_at at count bytes ≡ Ok (group, after)
   pub more : new ≡ groups ++ group ∷ []
 
-pub more_read : (groups new : List (List ℕ)) (at count : ℕ) (bytes after : List ℕ) → group_more_at groups at count bytes ≡ Ok (new, after) → IsMore groups new at count bytes after
+pub more_read : (groups new : List (List ℕ)) (at count : ℕ) (bytes after : List ℕ) → group_more_at groups at count bytes ≡ Ok (new, after) →
+    IsMore groups new at count bytes after
 more_read groups new at count bytes after e =
     let a = bind_ok (compact_at at count bytes) (λ x. Ok (groups ++ x.0 ∷ [], x.1)) (new, after) e in
     let both = ok_is {A = List (List ℕ) × List ℕ} (groups ++ a.0.0 ∷ [], a.0.1) (new, after) a.2 in
-    record { group = a.0.0; read = a.1 ∙ ap (λ (r : List ℕ). Ok (a.0.0, r)) (ap (λ (p : List (List ℕ) × List ℕ). p.1) both); more = sym (ap (λ (p : List (List ℕ) × List ℕ). p.0) both) }
+    record {
+      group = a.0.0;
+      read = a.1 ∙ ap (λ (r : List ℕ). Ok (a.0.0, r)) (ap (λ (p : List (List ℕ) × List ℕ). p.1) both);
+      more = sym (ap (λ (p : List (List ℕ) × List ℕ). p.0) both);
+    }
 
-pub group_more_at-ok : (groups : List (List ℕ)) (at count : ℕ) (bytes group after : List ℕ) → compact_at at count bytes ≡ Ok (group, after) → group_more_at groups at count bytes ≡ Ok (groups ++ group ∷ [], after)
+pub group_more_at-ok : (groups : List (List ℕ)) (at count : ℕ) (bytes group after : List ℕ) → compact_at at count bytes ≡ Ok (group, after) →
+    group_more_at groups at count bytes ≡ Ok (groups ++ group ∷ [], after)
 group_more_at-ok groups at count bytes group after h = rw h refl
 
-pub group_more_at-fails : (e : ReadErr) (groups : List (List ℕ)) (at count : ℕ) (bytes : List ℕ) → Fails e (compact_at at count bytes) → Fails e (group_more_at groups at count bytes)
+pub group_more_at-fails : (e : ReadErr) (groups : List (List ℕ)) (at count : ℕ) (bytes : List ℕ) → Fails e (compact_at at count bytes) →
+    Fails e (group_more_at groups at count bytes)
 group_more_at-fails errors.NoMemory groups at count bytes h = tt
 group_more_at-fails (errors.Form f) groups at count bytes h = rw h refl
 
@@ -141,6 +163,7 @@ not_more : (groups : List (List ℕ)) (read : Result (List ℕ × List ℕ) Form
 not_more groups (Ok x) f e = absurd cc
 not_more groups (Err g) f e = let same : g ≡ f = cc in ap Err same
 
-pub compact_at-fails : (e : ReadErr) (groups : List (List ℕ)) (at count : ℕ) (bytes : List ℕ) → Fails e (group_more_at groups at count bytes) → Fails e (compact_at at count bytes)
+pub compact_at-fails : (e : ReadErr) (groups : List (List ℕ)) (at count : ℕ) (bytes : List ℕ) → Fails e (group_more_at groups at count bytes) →
+    Fails e (compact_at at count bytes)
 compact_at-fails errors.NoMemory groups at count bytes h = tt
 compact_at-fails (errors.Form f) groups at count bytes h = not_more groups (compact_at at count bytes) f h

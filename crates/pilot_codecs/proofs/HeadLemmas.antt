@@ -2,7 +2,8 @@
 use Rattle.std.proofs.Common.{◌≡◌, ℕ, ◌+◌, ◌*◌, ◌-◌, ◌<◌, ◌≤◌, List, [], ◌∷◌, ◌++◌, length, map, get_or, take, drop, refl, sym, ap, ◌∙◌, subst, inl, inr, arith}
 use Rattle.std.specs.List.{flat_map}
 use Rattle.std.proofs.lemmas.Bool.{cases_lt}
-use Rattle.std.proofs.lemmas.List.{take-append-drop, take-append-le, drop-append-le, drop_at, take_all, take_rest, length-take, length-drop, map_push, map_more, flat_map_more, get_or_past, get_or-map, length-map}
+use Rattle.std.proofs.lemmas.List.{take-append-drop, take-append-le, drop-append-le, drop_at, take_all, take_rest, length-take, length-drop, map_push}
+use Rattle.std.proofs.lemmas.List.{map_more, flat_map_more, get_or_past, get_or-map, length-map}
 use Rattle.std.proofs.lemmas.List.Elements.{All-head, All-tail, All-push}
 use Rattle.bit_vector.specs.Bits.{words_for}
 use Rattle.pilot_codecs.specs.declared.groups.Head.{Head}
@@ -25,8 +26,9 @@ pub record IsRead (count w size : ℕ) (bytes old new read : List ℕ) : Type 0 
   pub read_is : read ≡ words_in size bytes
   pub new_is : drop (length old) new ≡ words_in size bytes
 
-pub words_read : (count w width size start : ℕ) (bytes old new seen : List ℕ) → width ≡ w → size ≡ words_for (count * width) → start ≡ length old → seen ≡ new → new ≡ old ++ words_in size bytes
-    → IsRead count w size bytes old new (take (length seen - start) (drop start seen))
+pub words_read : (count w width size start : ℕ) (bytes old new seen : List ℕ) → width ≡ w → size ≡ words_for (count * width) → start ≡ length old →
+    seen ≡ new → new ≡ old ++ words_in size bytes →
+    IsRead count w size bytes old new (take (length seen - start) (drop start seen))
 words_read count w width size start bytes old new seen same s at all e =
     record {
       size_is = s ∙ ap (λ (x : ℕ). words_for (count * x)) same;
@@ -46,7 +48,8 @@ words_under-kept old new head kept h =
     let whole : new ≡ old ++ more = sym (take-append-drop (length old) new) ∙ ap (λ (xs : List ℕ). xs ++ more) kept in
     let in_old : s ≤ length old = omega (arith, h.within) in
     let room : n ≤ length (drop s old) = omega (arith, h.within, length-drop s old) in
-    ap (λ (xs : List ℕ). take n (drop s xs)) whole ∙ ap (λ (xs : List ℕ). take n xs) (drop-append-le s old more in_old) ∙ take-append-le n (drop s old) more room
+    ap (λ (xs : List ℕ). take n (drop s xs)) whole ∙ ap (λ (xs : List ℕ). take n xs) (drop-append-le s old more in_old)
+    ∙ take-append-le n (drop s old) more room
 
 IsGroup-kept : (old new : List ℕ) (head : Head) → take (length old) new ≡ old → IsGroup old head → IsGroup new head
 IsGroup-kept old new head kept h = record {
@@ -57,11 +60,14 @@ IsGroup-kept old new head kept h = record {
 pub AreGroups-kept : (old new : List ℕ) (heads : List Head) → take (length old) new ≡ old → AreGroups old heads → AreGroups new heads
 AreGroups-kept old new heads kept h k d lt = IsGroup-kept old new (get_or heads k d) kept (h k d lt)
 
-pub groups-kept : (old new : List ℕ) (heads : List Head) → take (length old) new ≡ old → AreGroups old heads → map (group_in new) heads ≡ map (group_in old) heads
+pub groups-kept : (old new : List ℕ) (heads : List Head) → take (length old) new ≡ old → AreGroups old heads →
+    map (group_in new) heads ≡ map (group_in old) heads
 groups-kept old new [] kept h = refl
 groups-kept old new (head ∷ heads) kept h =
-    let first : group_in new head ≡ group_in old head = ap (λ (ws : List ℕ). values_in head.count head.width ws) (words_under-kept old new head kept (All-head (IsGroup old) head heads h)) in
-    ap (λ (g : List ℕ). g ∷ map (group_in new) heads) first ∙ ap (λ (gs : List (List ℕ)). group_in old head ∷ gs) (groups-kept old new heads kept (All-tail (IsGroup old) head heads h))
+    let first : group_in new head ≡ group_in old head =
+    ap (λ (ws : List ℕ). values_in head.count head.width ws) (words_under-kept old new head kept (All-head (IsGroup old) head heads h)) in
+    ap (λ (g : List ℕ). g ∷ map (group_in new) heads) first
+    ∙ ap (λ (gs : List (List ℕ)). group_in old head ∷ gs) (groups-kept old new heads kept (All-tail (IsGroup old) head heads h))
 
 -- a group whose words are those behind the old ones
 pub record IsAdded (old new : List ℕ) (head : Head) : Type 0 where
@@ -80,12 +86,14 @@ IsGroup-added old new head a = record {
   compact = subst (λ (ws : List ℕ). IsCompact head.count head.width ws) (sym (words_under-added old new head a)) a.compact;
 }
 
-pub AreGroups-added : (old new : List ℕ) (heads more : List Head) (head : Head) → AreGroups old heads → IsAdded old new head → more ≡ heads ++ head ∷ [] → AreGroups new more
+pub AreGroups-added : (old new : List ℕ) (heads more : List Head) (head : Head) → AreGroups old heads → IsAdded old new head → more ≡ heads ++ head ∷ [] →
+    AreGroups new more
 AreGroups-added old new heads more head h a e =
-    subst (λ (hs : List Head). AreGroups new hs) (sym e) (All-push (IsGroup new) heads head (AreGroups-kept old new heads a.kept h) (IsGroup-added old new head a))
+    subst (λ (hs : List Head). AreGroups new hs) (sym e)
+    (All-push (IsGroup new) heads head (AreGroups-kept old new heads a.kept h) (IsGroup-added old new head a))
 
-pub groups-added : (old new : List ℕ) (heads more : List Head) (head : Head) → AreGroups old heads → IsAdded old new head → more ≡ heads ++ head ∷ []
-    → map (group_in new) more ≡ map (group_in old) heads ++ values_in head.count head.width (drop (length old) new) ∷ []
+pub groups-added : (old new : List ℕ) (heads more : List Head) (head : Head) → AreGroups old heads → IsAdded old new head → more ≡ heads ++ head ∷ [] →
+    map (group_in new) more ≡ map (group_in old) heads ++ values_in head.count head.width (drop (length old) new) ∷ []
 groups-added old new heads more head h a e =
     ap (λ (hs : List Head). map (group_in new) hs) e ∙ map_push (group_in new) heads head
     ∙ ap (λ (gs : List (List ℕ)). gs ++ group_in new head ∷ []) (groups-kept old new heads a.kept h)
@@ -105,10 +113,12 @@ pub record HasValue (words : List ℕ) (heads : List Head) (g i : ℕ) (head : H
   pub values : get_or (map (group_in words) heads) g [] ≡ group_in words head
   pub inside : i < head.count
 
-pub has_value : (words : List ℕ) (heads : List Head) (g i : ℕ) (head : Head) → AreGroups words heads → head ≡ get_or heads g head → i < length (get_or (map (group_in words) heads) g []) → HasValue words heads g i head
+pub has_value : (words : List ℕ) (heads : List Head) (g i : ℕ) (head : Head) → AreGroups words heads → head ≡ get_or heads g head →
+    i < length (get_or (map (group_in words) heads) g []) → HasValue words heads g i head
 has_value words heads g i head h e lt =
     let among : g < length heads = omega (arith, among_groups (map (group_in words) heads) g i lt, length-map heads (group_in words)) in
-    let values : get_or (map (group_in words) heads) g [] ≡ group_in words head = get_or-map (group_in words) heads g head [] among ∙ ap (λ (x : Head). group_in words x) (sym e) in
+    let values : get_or (map (group_in words) heads) g [] ≡ group_in words head = get_or-map (group_in words) heads g head [] among
+    ∙ ap (λ (x : Head). group_in words x) (sym e) in
     record {
       group = subst (λ (x : Head). IsGroup words x) (sym e) (h g head among);
       values = values;
@@ -116,11 +126,13 @@ has_value words heads g i head h e lt =
     }
 
 -- the spellings of the groups so far, and of one more
-pub texts-more : (words text : List ℕ) (heads : List Head) (i : ℕ) (head : Head) → AreGroups words heads → i < length heads → head ≡ get_or heads i head → text ≡ number head.width ++ flat_map number (words_under words head)
-    → flat_map compact_text (map (group_in words) (take (i + 1) heads)) ≡ flat_map compact_text (map (group_in words) (take i heads)) ++ text
+pub texts-more : (words text : List ℕ) (heads : List Head) (i : ℕ) (head : Head) → AreGroups words heads → i < length heads → head ≡ get_or heads i head →
+    text ≡ number head.width ++ flat_map number (words_under words head) →
+    flat_map compact_text (map (group_in words) (take (i + 1) heads)) ≡ flat_map compact_text (map (group_in words) (take i heads)) ++ text
 texts-more words text heads i head h lt e t =
     let groups = map (group_in words) (take i heads) in
     let here : IsGroup words head = subst (λ (x : Head). IsGroup words x) (sym e) (h i head lt) in
     let same : compact_text (group_in words head) ≡ text = compact_text-values_in head.count head.width (words_under words head) here.compact ∙ sym t in
-    ap (λ (gs : List (List ℕ)). flat_map compact_text gs) (map_more (group_in words) heads i head lt ∙ ap (λ (x : Head). groups ++ group_in words x ∷ []) (sym e))
+    ap (λ (gs : List (List ℕ)). flat_map compact_text gs) (map_more (group_in words) heads i head lt
+    ∙ ap (λ (x : Head). groups ++ group_in words x ∷ []) (sym e))
     ∙ sym (flat_map_more compact_text [] groups (group_in words head)) ∙ ap (λ (t : List ℕ). flat_map compact_text groups ++ t) same

@@ -11,3 +11,6 @@ pub mod SortLemmas
 pub mod DictReads
 pub mod SumLemmas
 pub mod CodeLaws
+pub mod BelowLemmas
+pub mod PairLaws
+pub mod CallerLemmas

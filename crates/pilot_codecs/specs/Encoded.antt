@@ -22,12 +22,22 @@ encoded_of front (Some back) = record { enc = record { front = code_of front; ba
 -- the front part has its share of the values, and there are few enough
 abbrev pub IsSplit : Part → Option Part → Type 0
 IsSplit front None = length (values_of front) ≤ 2 ^ 30
-IsSplit front (Some back) = (length (values_of front) ≡ front_count_of (length (values_of front ++ values_of back))) × (length (values_of front ++ values_of back) ≤ 2 ^ 30)
+IsSplit front (Some back) = (length (values_of front) ≡ front_count_of (length (values_of front ++ values_of back)))
+    × (length (values_of front ++ values_of back) ≤ 2 ^ 30)
 
 -- each part has a spelling under its code
 abbrev pub FitSplit : Code → Option Code → List ℕ → Type 0
 FitSplit front None vs = Fits front vs
 FitSplit front (Some back) vs = Fits front (take (front_count_of (length vs)) vs) × Fits back (drop (front_count_of (length vs)) vs)
+
+-- a list that has a spelling under its encoding
+abbrev pub HasText : Encoded → Type 0
+HasText e = FitSplit e.enc.front e.enc.back e.values
+
+-- the parts are those of a list that has a spelling
+pub record ArePilots (front : Part) (back : Option Part) : Type 0 where
+  pub split : IsSplit front back
+  pub fit : HasText (encoded_of front back)
 
 -- the list of that count under an encoding, and the bytes after it
 abbrev pub pair_at : Encoding → ℕ → ℕ → List ℕ → Result (List ℕ × List ℕ) FormFault

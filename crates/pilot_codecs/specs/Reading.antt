@@ -1,5 +1,6 @@
 -- Reading a spelling from the left, with the first fault that is met.
-use Rattle.std.specs.Prelude.{ℕ, zero, suc, ◌+◌, ◌-◌, ◌*◌, ◌^◌, min, Bool, true, not, ◌&&◌, ◌||◌, List, [], ◌∷◌, ◌++◌, length, map, take, drop, slice_index, Option, Some, None, Result, Ok, Err, nat_lt, ◌==◌, if◌then◌else◌}
+use Rattle.std.specs.Prelude.{ℕ, zero, suc, ◌+◌, ◌-◌, ◌*◌, ◌^◌, min, Bool, true, not, ◌&&◌, ◌||◌, List, [], ◌∷◌, ◌++◌, length, map, take, drop, slice_index}
+use Rattle.std.specs.Prelude.{Option, Some, None, Result, Ok, Err, nat_lt, ◌==◌, if◌then◌else◌}
 use Rattle.std.specs.List.{flat_map}
 use Rattle.bit_vector.specs.Bits.{bits_of, number_of, words_number, words_for}
 use Rattle.pthash.specs.Sizes.{front_count_of}
@@ -26,7 +27,10 @@ unfoldable pub packed_at : ℕ → ℕ → ℕ → List ℕ → Result (List ℕ
 packed_at at count width bytes =
     if nat_lt (length bytes) (8 * words_for (count * width)) then Err (fault (at + 8) SHORT)
     else (if not (digits_of (greatest (fields_in count width bytes)) == width) then Err (fault at WIDTH)
-    else (if nat_lt (words_number (words_in (words_for (count * width)) bytes)) (2 ^ (count * width)) then Ok (fields_in count width bytes, drop (8 * words_for (count * width)) bytes)
+    else (if nat_lt (words_number (words_in (words_for (count * width)) bytes)) (2 ^ (count * width)) then Ok (
+      fields_in count width bytes,
+      drop (8 * words_for (count * width)) bytes,
+    )
     else Err (fault (at + 8 + 8 * words_for (count * width) - 8) PADDING)))
 
 unfoldable pub compact_at : ℕ → ℕ → List ℕ → Result (List ℕ × List ℕ) FormFault

@@ -1,3 +1,5 @@
+// The codes of a list and their pairs.
+
 /// How a list of numbers is spelled.
 #[derive(Clone, Copy, Debug, PartialEq, Eq)]
 pub enum Code {

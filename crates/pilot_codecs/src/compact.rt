@@ -1,6 +1,8 @@
-ghost use Rattle.std.specs.Prelude.{◌≡◌, ◌+◌, ◌*◌, ◌^◌, ◌≤◌, ◌++◌, length, take, drop, IfOk, OnOk};
+// Numbers in the width of the greatest.
+ghost use Rattle.std.specs.Prelude.{◌≡◌, ◌+◌, ◌*◌, ◌^◌, ◌≤◌, ◌++◌, length, take, drop, IfOk, OnOk, IsTrue};
 ghost use Rattle.std.specs.List.{slice_get, flat_map};
 ghost use Rattle.elias_fano.specs.Spelling.{number};
+ghost use Rattle.elias_fano.specs.Values.{below_len};
 ghost use Rattle.elias_fano.specs.Reading.{Gives};
 ghost use Rattle.pilot_codecs.specs.Spelling.{digits_of, greatest, compact_text};
 ghost use Rattle.pilot_codecs.specs.Reading.{packed_at, compact_at};
@@ -191,6 +193,16 @@ impl Compact {
         }
         let place = i * u64::from(self.width);
         Some(bits_at(&self.words, place as usize, self.width))
+    }
+
+    /// Whether no value of this width reaches a bound.
+    pub fn is_within(&self, bound: u64) -> bool
+        ensures { IsTrue result → below_len bound self.now ≡ length self.now }
+    {
+        if self.width >= 64 {
+            return false;
+        }
+        1 << self.width <= bound
     }
 
     /// Appends the spelling; on want of memory a part of it.

@@ -1,6 +1,8 @@
-ghost use Rattle.std.specs.Prelude.{◌≡◌, ◌+◌, ◌^◌, ◌≤◌, ◌++◌, length, take, IfOk, OnOk};
+// The distinct numbers, and each number by its index among them.
+ghost use Rattle.std.specs.Prelude.{◌≡◌, ◌+◌, ◌^◌, ◌≤◌, ◌++◌, length, take, IfOk, OnOk, IsTrue};
 ghost use Rattle.std.specs.List.{slice_get, flat_map};
 ghost use Rattle.elias_fano.specs.Spelling.{number};
+ghost use Rattle.elias_fano.specs.Values.{below_len};
 ghost use Rattle.elias_fano.specs.Reading.{Gives};
 ghost use Rattle.pilot_codecs.specs.Spelling.{dict_text, compact_text};
 ghost use Rattle.pilot_codecs.specs.Reading.{rise_len, used_at, indexed_at, entries_at, dict_at};
@@ -59,6 +61,17 @@ impl Dict {
             None => None,
             Some(place) => Some(self.entries[place as usize]),
         }
+    }
+
+    /// Whether the greatest value is below a bound, if there is one.
+    pub fn is_within(&self, bound: u64) -> bool
+        ensures { IsTrue result → below_len bound self.now ≡ length self.now }
+    {
+        let size = self.entries.len();
+        if size == 0 {
+            return true;
+        }
+        self.entries[size - 1] < bound
     }
 
     /// Appends the spelling; on want of memory a part of it.

@@ -1,3 +1,4 @@
+// What a dictionary and its indexes must keep.
 ghost use Rattle.std.specs.Prelude.{◌≡◌, true, IfOk};
 ghost use Rattle.pilot_codecs.specs.Reading.{rise_len, are_below, are_used};
 

@@ -1,3 +1,4 @@
+// Lists of numbers, each in the width of its greatest, with their words in one buffer.
 ghost use Rattle.std.specs.Prelude.{◌≡◌, ◌+◌, ◌*◌, ◌^◌, ◌<◌, ◌≤◌, ◌++◌, [], ◌∷◌, length, take, slice_index, slice_index_or, OnOk, OnErr};
 ghost use Rattle.std.specs.List.{flat_map};
 ghost use Rattle.bit_vector.specs.Bits.{words_for};

@@ -1,5 +1,7 @@
-ghost use Rattle.std.specs.Prelude.{◌≡◌, ◌+◌, ◌^◌, ◌<◌, ◌≤◌, ◌++◌, length, take, IfOk, OnOk};
+// A list under one code.
+ghost use Rattle.std.specs.Prelude.{◌≡◌, ◌+◌, ◌^◌, ◌<◌, ◌≤◌, ◌++◌, length, take, IfOk, OnOk, IsTrue};
 ghost use Rattle.std.specs.List.{slice_get};
+ghost use Rattle.elias_fano.specs.Values.{below_len};
 ghost use Rattle.elias_fano.specs.Reading.{Gives};
 ghost use Rattle.pilot_codecs.specs.Spelling.{greatest, code_text};
 ghost use Rattle.pilot_codecs.specs.Reading.{code_at};
@@ -73,6 +75,35 @@ pub fn part_get(part: &Part, i: u64) -> Option<u64>
         Part::Dict(list) => list.get(i),
         Part::EliasFano(list) => list.get(i),
     }
+}
+
+// Whether all values are below a bound, as far as it is seen without a look at each.
+fn is_within(part: &Part, bound: u64) -> bool
+    ensures { IsTrue result → below_len bound (values_of part.now) ≡ length (values_of part.now) }
+{
+    match part {
+        Part::Compact(list) => list.is_within(bound),
+        Part::Parted(_) => false,
+        Part::Dict(list) => list.is_within(bound),
+        Part::EliasFano(list) => list.is_within(bound),
+    }
+}
+
+/// How many values at the front are below a bound.
+pub fn part_below(part: &Part, bound: u64) -> u64
+    ensures { result ≡ below_len bound (values_of part.now) }
+{
+    let len = part_len(part);
+    if is_within(part, bound) {
+        return len;
+    }
+    for i in 0..len {
+        let value = part_get(part, i).unwrap();
+        if value >= bound {
+            return i;
+        }
+    }
+    len
 }
 
 /// Appends the spelling of a list; on want of memory a part of it.

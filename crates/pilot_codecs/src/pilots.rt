@@ -1,13 +1,15 @@
+// A list of small numbers under an encoding.
 ghost use Rattle.std.specs.Prelude.{◌≡◌, ◌+◌, ◌^◌, ◌<◌, ◌≤◌, ◌++◌, ℕ, List, length, take, drop, slice_index, IfOk, OnOk, OnErr};
 ghost use Rattle.std.specs.List.{slice_get};
 ghost use Rattle.pthash.specs.Sizes.{front_count_of};
+ghost use Rattle.elias_fano.specs.Values.{below_len};
 ghost use Rattle.elias_fano.specs.Reading.{Gives};
 ghost use Rattle.pilot_codecs.specs.Spelling.{code_text, pair_text};
 ghost use Rattle.pilot_codecs.specs.Values.{values_of, code_of};
-ghost use Rattle.pilot_codecs.specs.Encoded.{Encoded, encoded_of, IsSplit, IsSpelled, pair_at};
+ghost use Rattle.pilot_codecs.specs.Encoded.{Encoded, encoded_of, HasText, ArePilots, IsSpelled, pair_at};
 
 use crate::code::{Code, Encoding};
-use crate::part::{Part, code_of_part, encode_part, part_get, part_len, put_part, read_part};
+use crate::part::{Part, encode_part, part_below, part_get, part_len, put_part, read_part};
 use bit_vector::NoMemory;
 use elias_fano::ReadErr;
 use std::alloc::Global;
@@ -21,13 +23,13 @@ pub struct Pilots {
 }
 
 impl Model for Pilots {
-    ghost use Rattle.pilot_codecs.specs.Encoded.{Encoded, encoded_of, IsSplit};
+    ghost use Rattle.pilot_codecs.specs.Encoded.{Encoded, encoded_of, ArePilots};
 
     ghost Value = { Encoded };
 
     ghost view = { λ p. encoded_of p.front p.back };
 
-    ghost invariant = { λ p. IsSplit p.front p.back };
+    ghost invariant = { λ p. ArePilots p.front p.back };
 }
 
 // How many values the front part has.
@@ -73,10 +75,22 @@ impl Pilots {
         }
     }
 
+    /// How many values at the front are below a bound: all of them at once where a code shows it.
+    pub fn below(&self, bound: u64) -> u64
+        ensures { result ≡ below_len bound self.now.values }
+    {
+        match &self.back {
+            None => part_below(&self.front, bound),
+            Some(back) => below_both(&self.front, back, bound),
+        }
+    }
+
     /// How many values there are.
     pub fn len(&self) -> u64
         ensures value { result ≡ length self.now.values }
         ensures most { result ≤ 2 ^ 30 }
+        // So what is written is read again.
+        ensures fits { HasText self.now }
     {
         match &self.back {
             None => part_len(&self.front),
@@ -102,6 +116,8 @@ impl Pilots {
     }
 
     /// The list of a count under an encoding whose spelling stands at a place, and the place after it.
+    /// Places, that of a fault too, are those of the slice that is handed in, which may begin and end
+    /// inside a file.
     pub fn read(
         alloc: Global,
         bytes: &[u8],
@@ -140,6 +156,19 @@ fn get_of(front: &Part, back: &Part, i: u64) -> Option<u64>
     } else {
         part_get(back, i - first)
     }
+}
+
+// How many values at the front of two parts are below a bound.
+fn below_both(front: &Part, back: &Part, bound: u64) -> u64
+    requires { length (values_of front.now ++ values_of back.now) ≤ 2 ^ 30 }
+    ensures { result ≡ below_len bound (values_of front.now ++ values_of back.now) }
+{
+    let first = part_len(front);
+    let below = part_below(front, bound);
+    if below < first {
+        return below;
+    }
+    first + part_below(back, bound)
 }
 
 // Appends both parts; on want of memory a part of them.

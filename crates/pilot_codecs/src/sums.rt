@@ -1,6 +1,8 @@
-ghost use Rattle.std.specs.Prelude.{◌≡◌, ◌^◌, ◌<◌, ◌≤◌, ◌++◌, length, take, IfOk, OnOk};
+// The sums of the numbers up to each.
+ghost use Rattle.std.specs.Prelude.{◌≡◌, ◌^◌, ◌<◌, ◌≤◌, ◌++◌, length, take, IfOk, OnOk, IsTrue};
 ghost use Rattle.std.specs.List.{slice_get};
 ghost use Rattle.elias_fano.specs.Spelling.{ef_text};
+ghost use Rattle.elias_fano.specs.Values.{below_len};
 ghost use Rattle.elias_fano.specs.Reading.{Gives};
 ghost use Rattle.pilot_codecs.specs.Spelling.{greatest, sums_from};
 ghost use Rattle.pilot_codecs.specs.Reading.{sums_at};
@@ -72,9 +74,15 @@ impl Sums {
         if i == 0 {
             return self.list.get(0);
         }
-        let sum = self.list.get(i).unwrap();
-        let before = self.list.get(i - 1).unwrap();
+        let (before, sum) = self.list.pair(i - 1);
         Some(sum - before)
+    }
+
+    /// Whether the sum of all values is below a bound.
+    pub fn is_within(&self, bound: u64) -> bool
+        ensures { IsTrue result → below_len bound self.now ≡ length self.now }
+    {
+        self.list.below(bound) == self.list.len()
     }
 
     /// Appends the spelling; on want of memory a part of it.

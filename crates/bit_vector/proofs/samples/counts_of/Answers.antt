@@ -13,7 +13,8 @@ loop-at-preserved c =
     let few = ones-le 64 (get_or words at 0) (omega (arith, c.type_inv.words at)) in
     let so_far : IsSoFar words c.loop-at.counts.items at = record { len = inv.len; before = inv.before } in
     let next : IsSoFar words c.if-at-eq0.counts.items (at + 1) = elim c.if-at-eq0.branch [
-      | then-at-eq0+in_ok-push w ↦ rw w.counts-is (count_pushed words c.loop-at.counts.items _ at c.loop-at.total w.if-at-eq0.true so_far inv.total_is w.in_ok-push.ensures.items)
+      | then-at-eq0+in_ok-push w ↦ rw w.counts-is
+          (count_pushed words c.loop-at.counts.items _ at c.loop-at.total w.if-at-eq0.true so_far inv.total_is w.in_ok-push.ensures.items)
       | else-at-eq0 w ↦ rw w.counts-is (count_kept words c.loop-at.counts.items at w.if-at-eq0.false so_far)
     ] in
     record {

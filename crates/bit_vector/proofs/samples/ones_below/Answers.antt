@@ -19,7 +19,8 @@ returns-then-used-eq0 c =
     let at = c.args.at in
     let so_far : c.loop-w.below ≡ all_ones (take c.loop-w.w words) = c.loop-w.invariant in
     let whole : c.loop-w.w ≡ at / 64 = omega arith in
-    let none : count_ones (get_or words (at / 64) 0 % 2 ^ (at % 64)) ≡ 0 = ap (λ (s : ℕ). count_ones (get_or words (at / 64) 0 % 2 ^ s)) c.if-used-eq0.true ∙ ap count_ones (mod-one (get_or words (at / 64) 0)) ∙ no_ones in
+    let none : count_ones (get_or words (at / 64) 0 % 2 ^ (at % 64)) ≡ 0 = ap (λ (s : ℕ). count_ones (get_or words (at / 64) 0 % 2 ^ s)) c.if-used-eq0.true
+    ∙ ap count_ones (mod-one (get_or words (at / 64) 0)) ∙ no_ones in
     let sum = ones_below_place words at (λ i. omega (arith, c.type_inv.words i)) c.requires.within in
     let here : c.loop-w.below ≡ all_ones (take (at / 64) words) = so_far ∙ ap (λ (k : ℕ). all_ones (take k words)) whole in
     omega (arith, here, none, sum)

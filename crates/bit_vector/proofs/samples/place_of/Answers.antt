@@ -8,5 +8,9 @@ returns c =
     let words = c.args.words.now in
     let found = c.word_of_one-word in
     let before = c.requires.counted.before c.block_before-block.result c.block_before-block.ensures.within in
-    let number : all_ones (take found.result.0 words) + found.result.1 ≡ c.args.i = omega (arith, found.ensures.number, before, c.block_before-block.ensures.before) in
-    one_among words found.result.0 c.place_in.result found.result.1 c.args.i _ (λ i. omega (arith, c.type_inv.words i)) found.ensures.within c.place_in.ensures.within c.place_in.ensures.place number (omega (arith, c.from.ensures))
+    let number : all_ones (take found.result.0 words) + found.result.1 ≡ c.args.i =
+    omega (arith, found.ensures.number, before, c.block_before-block.ensures.before) in
+    one_among words found.result.0 c.place_in.result found.result.1 c.args.i _ (λ i. omega (
+      arith,
+      c.type_inv.words i,
+    )) found.ensures.within c.place_in.ensures.within c.place_in.ensures.place number (omega (arith, c.from.ensures))

@@ -8,4 +8,5 @@ returns-then-shift-width-le64 c =
 
 pub returns-else-shift-width-le64 : goal.returns-else-shift-width-le64
 returns-else-shift-width-le64 c =
-    c.low_bits-else-shift-width-le64.ensures ∙ bits_across c.args.words.now c.args.at c.args.width (λ i. omega (arith, c.type_inv.words i)) (omega arith) (omega arith) (omega arith)
+    c.low_bits-else-shift-width-le64.ensures
+    ∙ bits_across c.args.words.now c.args.at c.args.width (λ i. omega (arith, c.type_inv.words i)) (omega arith) (omega arith) (omega arith)

@@ -9,7 +9,8 @@ pub loop-i-init : goal.loop-i-init
 loop-i-init c =
     let vs = c.args.values.now in
     let w = c.args.width in
-    c.in_ok-high.ensures ∙ ap (λ (u : ℕ). replicate (length vs + u / 2 ^ w + 1) false) c.last_value.ensures ∙ high_first w (high_len (length vs) (last_of 0 vs) w)
+    c.in_ok-high.ensures ∙ ap (λ (u : ℕ). replicate (length vs + u / 2 ^ w + 1) false) c.last_value.ensures
+    ∙ high_first w (high_len (length vs) (last_of 0 vs) w)
 
 pub overflow_add-value : goal.overflow_add-value
 overflow_add-value c =
@@ -27,7 +28,8 @@ pub loop-i-preserved : goal.loop-i-preserved
 loop-i-preserved c =
     let vs = c.args.values.now in
     let w = c.args.width in
-    c.set.ensures ∙ high_step w (high_len (length vs) (last_of 0 vs) w) vs c.loop-i.i c.loop-i.high c.loop-i-test.true (place_within w vs c.loop-i.i c.requires.rising c.loop-i-test.true) c.loop-i.invariant
+    c.set.ensures ∙ high_step w (high_len (length vs) (last_of 0 vs) w) vs c.loop-i.i c.loop-i.high c.loop-i-test.true
+    (place_within w vs c.loop-i.i c.requires.rising c.loop-i-test.true) c.loop-i.invariant
 
 pub returns : goal.returns
 returns c =

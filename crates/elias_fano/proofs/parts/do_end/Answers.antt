@@ -2,7 +2,7 @@ use Rattle.std.proofs.Common.{◌≡◌, ℕ, ◌+◌, ◌-◌, ◌*◌, ◌^◌
 use Rattle.std.proofs.lemmas.Bool.{eqb-true, eq-eqb}
 use Rattle.std.proofs.lemmas.Nat.{one_shl, pow_pos}
 use Rattle.std.proofs.lemmas.List.{nil_from_length}
-use Rattle.bit_vector.proofs.ReadLemmas.{low_mask}
+use Rattle.bit_vector.proofs.CallerLemmas.{low_mask}
 use Rattle.elias_fano.specs.Spelling.{last_of}
 use Rattle.elias_fano.specs.Values.{values_of}
 use Rattle.elias_fano.proofs.WidthLemmas.{low_width-le}
@@ -38,7 +38,8 @@ returns-then-here-last c =
     let end : last_of 0 vs ≡ c.part_at-here.result.0 * 2 ^ w + c.part_at-here.result.1 =
     last_of-is 0 vs (omega (arith, n, c.if-count-eq0.false)) ∙ ap (λ (i : ℕ). get_or vs (i - 1) 0) n ∙ sym c.part_at-here.ensures.value in (
       λ t. end ∙ parts-join c.part_at-here.result.0 c.part_at-here.result.1 w last c.if-here-last.true (eqb-true _ _ t ∙ low_mask last w narrow),
-      λ e. eq-eqb _ _ ((parts-of c.part_at-here.result.0 c.part_at-here.result.1 w last c.part_at-here.ensures.low (sym end ∙ e)).1 ∙ sym (low_mask last w narrow)),
+      λ e. eq-eqb _ _ ((parts-of c.part_at-here.result.0 c.part_at-here.result.1 w last c.part_at-here.ensures.low (sym end ∙ e)).1
+          ∙ sym (low_mask last w narrow)),
     )
 
 pub returns-else-here-last : goal.returns-else-here-last

@@ -1,28 +1,79 @@
-use Rattle.std.proofs.Common.{ℕ, ◌+◌, ◌*◌, ◌^◌, List, sym, ap, ◌∙◌, arith}
+use Rattle.std.proofs.Common.{◌≡◌, ℕ, ◌+◌, ◌-◌, ◌*◌, ◌^◌, ◌<◌, Bool, List, length, take, drop, get_or, Some, sym, ap, subst, ◌∙◌, arith}
+use Rattle.std.specs.Prelude.{IsSome}
+use Rattle.std.specs.List.{slice_get}
 use Rattle.std.proofs.lemmas.List.{drop_all}
+use Rattle.bit_vector.specs.Bits.{number_of, ones, places}
 use Rattle.elias_fano.specs.Spelling.{rises}
-use Rattle.elias_fano.specs.Values.{values_of}
-use Rattle.elias_fano.proofs.ValueLemmas.{rises-nil, rises-drop_yes, rises-drop_no, parts-lt, parts-le}
+use Rattle.elias_fano.specs.Values.{values_of, AreParts}
+use Rattle.elias_fano.proofs.ValueLemmas.{rises-nil, rises-drop_yes, rises-drop_no, parts-lt, parts-le, low-lt}
+use Rattle.elias_fano.proofs.PartLemmas.{IsPart, has_place, part_is, high-most}
 use Rattle.elias_fano.proofs.TextLemmas.{values-length}
 use Rattle.elias_fano.proofs.parts.do_rise.Goals as goal
+
+-- the value of a part
+value_is : (count last w : ℕ) (low high : List Bool) (i place : ℕ) (here : ℕ × ℕ) → IsPart count last w low high i place → here.0 ≡ place - i →
+    here.1 ≡ number_of (take w (drop (i * w) low)) → (here.0 * 2 ^ w + here.1 ≡ get_or (values_of w low high) i 0) × (here.1 < 2 ^ w)
+value_is count last w low high i place here p high_is low_is = (
+  ap (λ (x : ℕ). x * 2 ^ w + here.1) high_is ∙ ap (λ (x : ℕ). (place - i) * 2 ^ w + x) low_is ∙ p.value,
+  subst (λ (x : ℕ). x < 2 ^ w) (sym low_is) (low-lt w (drop (i * w) low)),
+)
+
+pub unwrap-place-requires : goal.unwrap-place-requires
+unwrap-place-requires c =
+    let there = has_place c.args.count c.args.last c.args.width c.args.low.now c.args.high.now c.loop-i.i c.requires c.loop-i-test.true in
+    rw c.next1.ensures (subst (λ (k : ℕ). IsSome (slice_get (places c.args.high.now) k)) (sym c.loop-i.invariant.passed) there)
+
+pub part_of-here-requires-clause-wide : goal.part_of-here-requires-clause-wide
+part_of-here-requires-clause-wide c = (part_is c.args.count c.args.last c.args.width c.args.low.now c.args.high.now c.loop-i.i c.unwrap-place.result c.requires c.loop-i-test.true
+    (ap (λ (k : ℕ). slice_get (places c.args.high.now) k) (sym c.loop-i.invariant.passed) ∙ sym c.next1.ensures ∙ c.unwrap-place.ensures)).wide
+
+pub part_of-here-requires-clause-within : goal.part_of-here-requires-clause-within
+part_of-here-requires-clause-within c = (part_is c.args.count c.args.last c.args.width c.args.low.now c.args.high.now c.loop-i.i c.unwrap-place.result c.requires c.loop-i-test.true
+    (ap (λ (k : ℕ). slice_get (places c.args.high.now) k) (sym c.loop-i.invariant.passed) ∙ sym c.next1.ensures ∙ c.unwrap-place.ensures)).within
+
+pub part_of-here-requires-clause-before : goal.part_of-here-requires-clause-before
+part_of-here-requires-clause-before c = (part_is c.args.count c.args.last c.args.width c.args.low.now c.args.high.now c.loop-i.i c.unwrap-place.result c.requires c.loop-i-test.true
+    (ap (λ (k : ℕ). slice_get (places c.args.high.now) k) (sym c.loop-i.invariant.passed) ∙ sym c.next1.ensures ∙ c.unwrap-place.ensures)).before
 
 pub returns-then-is_below : goal.returns-then-is_below
 returns-then-is_below c =
     let w = c.args.width in
+    let i = c.loop-i.i in
     let vs = values_of w c.args.low.now c.args.high.now in
+    let here = c.part_of-here.result in
     let n = values-length c.args.count c.args.last w c.args.low.now c.args.high.now c.requires in
-    let less = parts-lt c.part_at-here.result.0 c.loop-i.before c.part_at-here.result.1 c.loop-i.low_before w c.part_at-here.ensures.low (c.is_below.ensures.0 c.if-is_below.true) in
-    sym (rises-drop_no vs c.loop-i.i (c.loop-i.before * 2 ^ w + c.loop-i.low_before) (c.part_at-here.result.0 * 2 ^ w + c.part_at-here.result.1) (omega (arith, n, c.loop-i-test.true)) c.part_at-here.ensures.value less) ∙ c.loop-i.invariant.so_far
+    let p = part_is c.args.count c.args.last c.args.width c.args.low.now c.args.high.now c.loop-i.i c.unwrap-place.result c.requires c.loop-i-test.true
+    (ap (λ (k : ℕ). slice_get (places c.args.high.now) k) (sym c.loop-i.invariant.passed) ∙ sym c.next1.ensures ∙ c.unwrap-place.ensures) in
+    let v = value_is c.args.count c.args.last w c.args.low.now c.args.high.now i c.unwrap-place.result here p c.part_of-here.ensures.high c.part_of-here.ensures.low in
+    let less = parts-lt here.0 c.loop-i.before here.1 c.loop-i.low_before w v.1 (c.is_below.ensures.0 c.if-is_below.true) in
+    let no = rises-drop_no vs i (c.loop-i.before * 2 ^ w + c.loop-i.low_before) (here.0 * 2 ^ w + here.1) (omega (arith, n, c.loop-i-test.true)) v.0 less in
+    sym no ∙ c.loop-i.invariant.so_far
+
+pub overflow_add-from : goal.overflow_add-from
+overflow_add-from c =
+    let most = high-most c.args.count c.args.last c.args.width c.args.low.now c.args.high.now c.requires (omega (arith, c.loop-i-test.true)) c.ranges.last.fits in
+    let p = part_is c.args.count c.args.last c.args.width c.args.low.now c.args.high.now c.loop-i.i c.unwrap-place.result c.requires c.loop-i-test.true
+    (ap (λ (k : ℕ). slice_get (places c.args.high.now) k) (sym c.loop-i.invariant.passed) ∙ sym c.next1.ensures ∙ c.unwrap-place.ensures) in
+    omega (arith, most, p.here)
 
 pub loop-i-preserved : goal.loop-i-preserved
 loop-i-preserved c =
     let w = c.args.width in
+    let i = c.loop-i.i in
     let vs = values_of w c.args.low.now c.args.high.now in
+    let here = c.part_of-here.result in
     let n = values-length c.args.count c.args.last w c.args.low.now c.args.high.now c.requires in
-    let more = parts-le c.part_at-here.result.0 c.loop-i.before c.part_at-here.result.1 c.loop-i.low_before w c.loop-i.invariant.small (λ h. Rattle.std.proofs.lemmas.Bool.both_ways c.is_below.result c.if-is_below.false (c.is_below.ensures.1 h)) in
+    let p = part_is c.args.count c.args.last c.args.width c.args.low.now c.args.high.now c.loop-i.i c.unwrap-place.result c.requires c.loop-i-test.true
+    (ap (λ (k : ℕ). slice_get (places c.args.high.now) k) (sym c.loop-i.invariant.passed) ∙ sym c.next1.ensures ∙ c.unwrap-place.ensures) in
+    let v = value_is c.args.count c.args.last w c.args.low.now c.args.high.now i c.unwrap-place.result here p c.part_of-here.ensures.high c.part_of-here.ensures.low in
+    let more = parts-le here.0 c.loop-i.before here.1 c.loop-i.low_before w c.loop-i.invariant.small
+    (λ h. Rattle.std.proofs.lemmas.Bool.both_ways c.is_below.result c.if-is_below.false (c.is_below.ensures.1 h)) in
+    let yes = rises-drop_yes vs i (c.loop-i.before * 2 ^ w + c.loop-i.low_before) (here.0 * 2 ^ w + here.1) (omega (arith, n, c.loop-i-test.true)) v.0 more in
     record {
-      so_far = sym (rises-drop_yes vs c.loop-i.i (c.loop-i.before * 2 ^ w + c.loop-i.low_before) (c.part_at-here.result.0 * 2 ^ w + c.part_at-here.result.1) (omega (arith, n, c.loop-i-test.true)) c.part_at-here.ensures.value more) ∙ c.loop-i.invariant.so_far;
-      small = c.part_at-here.ensures.low;
+      so_far = sym yes ∙ c.loop-i.invariant.so_far;
+      small = v.1;
+      from_in = omega (arith, p.here);
+      passed = p.step;
     }
 
 pub returns : goal.returns

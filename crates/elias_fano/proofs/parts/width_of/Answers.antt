@@ -10,7 +10,8 @@ returns-then-count-eq0-clause-width c = sym (elim c.then-count-eq0.branch [
 ])
 
 pub returns-clause-width : goal.returns-clause-width
-returns-clause-width c = sym (low_width-is c.args.count c.args.last c.ilog2.result c.if-count-eq0.false (omega arith) c.if-last-count-eq0.false c.ilog2.ensures.power_le c.ilog2.ensures.next_power_gt)
+returns-clause-width c = sym (low_width-is c.args.count c.args.last c.ilog2.result c.if-count-eq0.false
+    (omega arith) c.if-last-count-eq0.false c.ilog2.ensures.power_le c.ilog2.ensures.next_power_gt)
 
 pub returns-clause-few_high : goal.returns-clause-few_high
 returns-clause-few_high c = λ some. few_high c.args.count c.args.last c.ilog2.result some c.ilog2.ensures.next_power_gt

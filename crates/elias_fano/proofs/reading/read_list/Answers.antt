@@ -8,7 +8,9 @@ returns-in_err-last c =
     rw (p.1, p.2) (list_at-number c.in_err-last.field-0.0 c.args.at c.args.count c.args.bytes.now c.in_err-last.ensures)
 
 pub returns-then-last-ne0 : goal.returns-then-last-ne0
-returns-then-last-ne0 c = rw c.form_fault.ensures (list_at-last c.args.at c.args.count c.in_ok-last.last c.args.bytes.now c.in_ok-last.rest.now c.in_ok-last.ensures c.if-count-eq0.true c.if-last-ne0.true)
+returns-then-last-ne0 c = rw c.form_fault.ensures
+    (list_at-last c.args.at c.args.count c.in_ok-last.last c.args.bytes.now c.in_ok-last.rest.now c.in_ok-last.ensures c.if-count-eq0.true c.if-last-ne0.true)
 
 pub returns : goal.returns
-returns c = rw (list_at-parts c.args.at c.args.count c.in_ok-last.last c.args.bytes.now c.in_ok-last.rest.now c.in_ok-last.ensures c.else-count-eq0.either) c.parts_of.ensures
+returns c = rw (list_at-parts c.args.at c.args.count c.in_ok-last.last c.args.bytes.now c.in_ok-last.rest.now c.in_ok-last.ensures c.else-count-eq0.either)
+    c.parts_of.ensures

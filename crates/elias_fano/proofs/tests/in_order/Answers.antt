@@ -23,4 +23,5 @@ returns c =
     let vs = c.args.values.now in
     let i = c.loop-value.value-index in
     let so_far : rises c.loop-value.before (drop i vs) ≡ rises 0 vs = c.loop-value.invariant in
-    sym (rises-nil c.loop-value.before) ∙ ap (λ (xs : List ℕ). rises c.loop-value.before xs) (sym (drop_all i vs (omega (arith, c.loop-value-test.false)))) ∙ so_far
+    sym (rises-nil c.loop-value.before) ∙ ap (λ (xs : List ℕ). rises c.loop-value.before xs) (sym (drop_all i vs (omega (arith, c.loop-value-test.false))))
+    ∙ so_far

@@ -17,9 +17,11 @@ loop-i-preserved c =
     let fs = fields c.args.count w (bits_of (c.args.count * w) n) in
     let i = c.loop-i.i in
     let so_far : c.loop-i.most ≡ greatest (take i fs) = c.loop-i.invariant in
-    let got : c.bits_at.result ≡ get_or fs i 0 = c.bits_at.ensures ∙ ap (λ (x : ℕ). n / 2 ^ (i * x) % 2 ^ w) c.from.ensures ∙ field_at n c.args.count w i c.loop-i-test.true in
+    let got : c.bits_at.result ≡ get_or fs i 0 = c.bits_at.ensures ∙ ap (λ (x : ℕ). n / 2 ^ (i * x) % 2 ^ w) c.from.ensures
+    ∙ field_at n c.args.count w i c.loop-i-test.true in
     let lt : i < length fs = omega (arith, length-fields c.args.count w (bits_of (c.args.count * w) n), c.loop-i-test.true) in
-    c.max-most.ensures ∙ ord_max_is c.loop-i.most c.bits_at.result ∙ ap (λ (x : ℕ). max x c.bits_at.result) so_far ∙ ap (λ (x : ℕ). max (greatest (take i fs)) x) got ∙ sym (greatest-more fs i lt)
+    c.max-most.ensures ∙ ord_max_is c.loop-i.most c.bits_at.result ∙ ap (λ (x : ℕ). max x c.bits_at.result) so_far
+    ∙ ap (λ (x : ℕ). max (greatest (take i fs)) x) got ∙ sym (greatest-more fs i lt)
 
 pub returns : goal.returns
 returns c =

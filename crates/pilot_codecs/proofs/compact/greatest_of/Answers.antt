@@ -12,4 +12,5 @@ loop-value-preserved c =
     let vs = c.args.values.now in
     let i = c.loop-value.value-index in
     let so_far : c.loop-value.most ≡ greatest (take i vs) = c.loop-value.invariant in
-    c.max-most.ensures ∙ ord_max_is c.loop-value.most (get_or vs i 0) ∙ ap (λ (x : ℕ). max x (get_or vs i 0)) so_far ∙ sym (greatest-more vs i c.loop-value-test.true)
+    c.max-most.ensures ∙ ord_max_is c.loop-value.most (get_or vs i 0) ∙ ap (λ (x : ℕ). max x (get_or vs i 0)) so_far
+    ∙ sym (greatest-more vs i c.loop-value-test.true)

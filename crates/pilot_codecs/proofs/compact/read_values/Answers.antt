@@ -16,9 +16,11 @@ returns-then-width-eq0-clause-values c =
 pub returns-in_err-after-clause-values : goal.returns-in_err-after-clause-values
 returns-in_err-after-clause-values c =
     let p = err_from_is_err_and c.from_residual-in_err-after.result c.from_residual-in_err-after.ensures.1 in
-    let packed = compact_at-packed c.args.at c.args.count c.in_ok-width.width c.args.bytes.now c.in_ok-width.rest.now c.in_ok-width.ensures c.if-width-eq0.false c.if-width-gt64.false in
+    let packed = compact_at-packed c.args.at c.args.count c.in_ok-width.width c.args.bytes.now c.in_ok-width.rest.now c.in_ok-width.ensures
+    c.if-width-eq0.false c.if-width-gt64.false in
     rw (p.1, p.2, packed) c.in_err-after.ensures.values
 
 pub returns-clause-values : goal.returns-clause-values
 returns-clause-values c =
-    compact_at-packed c.args.at c.args.count c.in_ok-width.width c.args.bytes.now c.in_ok-width.rest.now c.in_ok-width.ensures c.if-width-eq0.false c.if-width-gt64.false ∙ c.in_ok-after.ensures.values
+    compact_at-packed c.args.at c.args.count c.in_ok-width.width c.args.bytes.now c.in_ok-width.rest.now c.in_ok-width.ensures c.if-width-eq0.false
+    c.if-width-gt64.false ∙ c.in_ok-after.ensures.values

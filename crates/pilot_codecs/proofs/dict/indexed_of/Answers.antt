@@ -10,19 +10,23 @@ returns-in_err-places c =
     let ds = c.args.entries.items in
     let size : c.len-size.result ≡ length ds = omega (arith, c.len-size.ensures, c.args.entries.ok.0) in
     let p = err_from_is_err_and c.from_residual.result c.from_residual.ensures.1 in
-    rw (p.1, p.2) (indexed_at-places c.in_err-places.field-0.0 c.args.at c.args.count ds c.args.bytes.now (subst (λ (k : ℕ). Fails c.in_err-places.field-0.0 (compact_at (c.args.at + 8 + 8 * k) c.args.count c.args.bytes.now)) size c.in_err-places.ensures))
+    rw (p.1, p.2) (indexed_at-places c.in_err-places.field-0.0 c.args.at c.args.count ds c.args.bytes.now
+    (subst (λ (k : ℕ). Fails c.in_err-places.field-0.0 (compact_at (c.args.at + 8 + 8 * k) c.args.count c.args.bytes.now)) size c.in_err-places.ensures))
 
 pub returns-in_err-dict : goal.returns-in_err-dict
 returns-in_err-dict c =
     let ds = c.args.entries.items in
     let size : c.len-size.result ≡ length ds = omega (arith, c.len-size.ensures, c.args.entries.ok.0) in
-    let places : compact_at (c.args.at + 8 + 8 * length ds) c.args.count c.args.bytes.now ≡ Ok (c.in_ok-places.places, c.in_ok-places.rest.now) = ap (λ (k : ℕ). compact_at (c.args.at + 8 + 8 * k) c.args.count c.args.bytes.now) (sym size) ∙ c.in_ok-places.ensures in
+    let places : compact_at (c.args.at + 8 + 8 * length ds) c.args.count c.args.bytes.now ≡ Ok (c.in_ok-places.places, c.in_ok-places.rest.now) =
+    ap (λ (k : ℕ). compact_at (c.args.at + 8 + 8 * k) c.args.count c.args.bytes.now) (sym size) ∙ c.in_ok-places.ensures in
     let p = err_from_is_err_and c.from_residual-in_err-dict.result c.from_residual-in_err-dict.ensures.1 in
-    rw (p.1, p.2) (indexed_at-used c.in_err-dict.field-0.0 c.args.at c.args.count ds c.args.bytes.now c.in_ok-places.places c.in_ok-places.rest.now places c.in_err-dict.ensures)
+    rw (p.1, p.2) (indexed_at-used c.in_err-dict.field-0.0 c.args.at c.args.count ds c.args.bytes.now c.in_ok-places.places c.in_ok-places.rest.now places
+    c.in_err-dict.ensures)
 
 pub returns : goal.returns
 returns c =
     let ds = c.args.entries.items in
     let size : c.len-size.result ≡ length ds = omega (arith, c.len-size.ensures, c.args.entries.ok.0) in
-    let places : compact_at (c.args.at + 8 + 8 * length ds) c.args.count c.args.bytes.now ≡ Ok (c.in_ok-places.places, c.in_ok-places.rest.now) = ap (λ (k : ℕ). compact_at (c.args.at + 8 + 8 * k) c.args.count c.args.bytes.now) (sym size) ∙ c.in_ok-places.ensures in
+    let places : compact_at (c.args.at + 8 + 8 * length ds) c.args.count c.args.bytes.now ≡ Ok (c.in_ok-places.places, c.in_ok-places.rest.now) =
+    ap (λ (k : ℕ). compact_at (c.args.at + 8 + 8 * k) c.args.count c.args.bytes.now) (sym size) ∙ c.in_ok-places.ensures in
     indexed_at-ok c.args.at c.args.count ds c.args.bytes.now c.in_ok-places.places c.in_ok-places.rest.now c.in_ok-dict.dict places c.in_ok-dict.ensures

@@ -3,7 +3,7 @@ use Rattle.std.proofs.Math.Bool.{beq}
 use Rattle.std.specs.Prelude.{not, replicate}
 use Rattle.std.specs.List.{list_any}
 use Rattle.elias_fano.specs.Spelling.{is_among}
-use Rattle.elias_fano.proofs.ValueLemmas.{slice_get-some, slice_get-is}
+use Rattle.elias_fano.proofs.CallerLemmas.{slice_get-some, slice_get-is}
 use Rattle.pilot_codecs.specs.Reading.{are_used}
 use Rattle.pilot_codecs.proofs.DictLemmas.{same_bool, set_each, each_set, are_below-at, are_used-at, are_used-from, is_among-nil, marked_more}
 use Rattle.std.proofs.lemmas.List.{take_all, length-set, length-replicate, get_or-replicate}
@@ -26,7 +26,8 @@ index_mut-requires c =
     let ps = c.args.places.now in
     let i = c.loop-i.i in
     let lt : i < length ps = omega (arith, c.len-i-end.ensures, c.loop-i-test.true) in
-    let got : c.unwrap-place.result ≡ get_or ps i 0 = some_is c.unwrap-place.result (get_or ps i 0) (sym c.unwrap-place.ensures ∙ c.get.ensures ∙ slice_get-is ps i 0 lt) in
+    let got : c.unwrap-place.result ≡ get_or ps i 0 = some_is c.unwrap-place.result (get_or ps i 0) (sym c.unwrap-place.ensures ∙ c.get.ensures
+    ∙ slice_get-is ps i 0 lt) in
     omega (arith, got, are_below-at c.args.size ps i c.requires.below lt, c.loop-i.invariant.len, c.loop-i.used.ok.0)
 
 pub loop-i-preserved : goal.loop-i-preserved
@@ -34,10 +35,15 @@ loop-i-preserved c =
     let ps = c.args.places.now in
     let i = c.loop-i.i in
     let lt : i < length ps = omega (arith, c.len-i-end.ensures, c.loop-i-test.true) in
-    let got : c.unwrap-place.result ≡ get_or ps i 0 = some_is c.unwrap-place.result (get_or ps i 0) (sym c.unwrap-place.ensures ∙ c.get.ensures ∙ slice_get-is ps i 0 lt) in
+    let got : c.unwrap-place.result ≡ get_or ps i 0 = some_is c.unwrap-place.result (get_or ps i 0) (sym c.unwrap-place.ensures ∙ c.get.ensures
+    ∙ slice_get-is ps i 0 lt) in
     record {
       len = length-set c.loop-i.used.items c.unwrap-place.result true ∙ c.loop-i.invariant.len;
-      marked = marked_more c.loop-i.used.items ps i c.unwrap-place.result c.args.size c.loop-i.invariant.len lt got (omega (arith, got, are_below-at c.args.size ps i c.requires.below lt)) c.loop-i.invariant.marked;
+      marked = marked_more c.loop-i.used.items ps i c.unwrap-place.result c.args.size c.loop-i.invariant.len lt got (omega (
+        arith,
+        got,
+        are_below-at c.args.size ps i c.requires.below lt,
+      )) c.loop-i.invariant.marked;
     }
 
 pub returns : goal.returns
@@ -46,7 +52,8 @@ returns c =
     let i = c.loop-i.i in
     let all : take i ps ≡ ps = take_all i ps (omega (arith, c.len-i-end.ensures, c.loop-i-test.false)) in
     let items : c.deref.result.now ≡ c.loop-i.used.items = c.deref.ensures.value in
-    let marks = λ (d : ℕ) (lt : d < c.args.size). ap (λ (bs : List Bool). get_or bs d false) items ∙ c.loop-i.invariant.marked d lt ∙ ap (λ (xs : List ℕ). is_among d xs) all in
+    let marks = λ (d : ℕ) (lt : d < c.args.size). ap (λ (bs : List Bool). get_or bs d false) items ∙ c.loop-i.invariant.marked d lt
+    ∙ ap (λ (xs : List ℕ). is_among d xs) all in
     let size : length c.deref.result.now ≡ c.args.size = ap length items ∙ c.loop-i.invariant.len in
     ap (λ (b : Bool). not b) c.contains.ensures.value
     ∙ same_bool (not (list_any (λ b. beq b false) c.deref.result.now)) (are_used c.args.size ps)

@@ -12,25 +12,35 @@ pub returns-in_err-after : goal.returns-in_err-after
 returns-in_err-after c =
     let s : c.min-size.result ≡ min 256 c.loop-left.left = c.min-size.ensures ∙ min_comm c.loop-left.left 256 in
     let p = err_from_is_err_and c.from_residual.result c.from_residual.ensures.1 in
-    let fault = compact_at-fails c.in_err-after.field-0.0 c.loop-left.groups c.loop-left.place c.min-size.result c.loop-left.rest.now c.in_err-after.ensures.groups in
-    rw (p.1, p.2) (ends c.in_err-after.field-0.0 c.loop-left.groups c.loop-left.left c.loop-left.place c.min-size.result c.loop-left.rest.now (groups_at (groups_for c.args.count) c.args.at c.args.count c.args.bytes.now) c.loop-left-test.true s fault c.loop-left.invariant.so_far)
+    let fault = compact_at-fails c.in_err-after.field-0.0 c.loop-left.groups c.loop-left.place c.min-size.result c.loop-left.rest.now
+    c.in_err-after.ensures.groups in
+    rw (p.1, p.2) (ends c.in_err-after.field-0.0 c.loop-left.groups c.loop-left.left c.loop-left.place c.min-size.result c.loop-left.rest.now
+    (groups_at (groups_for c.args.count) c.args.at c.args.count c.args.bytes.now) c.loop-left-test.true s fault c.loop-left.invariant.so_far)
 
 pub overflow_sub-place : goal.overflow_sub-place
 overflow_sub-place c =
-    let m = more_read c.loop-left.groups c.read_more.new.self c.loop-left.place c.min-size.result c.loop-left.rest.now c.in_ok-after.after.now c.in_ok-after.ensures.groups in
+    let m = more_read c.loop-left.groups c.read_more.new.self c.loop-left.place c.min-size.result c.loop-left.rest.now c.in_ok-after.after.now
+    c.in_ok-after.ensures.groups in
     let t = compact_takes c.loop-left.place c.min-size.result c.loop-left.rest.now m.group c.in_ok-after.after.now c.loop-left.invariant.fits m.read in
-    let shorter : length c.in_ok-after.after.now ≤ length c.loop-left.rest.now = omega (arith, ap length t.taken.parts, length-append (compact_text m.group) c.in_ok-after.after.now) in
+    let shorter : length c.in_ok-after.after.now ≤ length c.loop-left.rest.now =
+    omega (arith, ap length t.taken.parts, length-append (compact_text m.group) c.in_ok-after.after.now) in
     shorter
 
 pub loop-left-preserved : goal.loop-left-preserved
 loop-left-preserved c =
     let s : c.min-size.result ≡ min 256 c.loop-left.left = c.min-size.ensures ∙ min_comm c.loop-left.left 256 in
-    let m = more_read c.loop-left.groups c.read_more.new.self c.loop-left.place c.min-size.result c.loop-left.rest.now c.in_ok-after.after.now c.in_ok-after.ensures.groups in
+    let m = more_read c.loop-left.groups c.read_more.new.self c.loop-left.place c.min-size.result c.loop-left.rest.now c.in_ok-after.after.now
+    c.in_ok-after.ensures.groups in
     let t = compact_takes c.loop-left.place c.min-size.result c.loop-left.rest.now m.group c.in_ok-after.after.now c.loop-left.invariant.fits m.read in
-    let shorter : length c.in_ok-after.after.now ≤ length c.loop-left.rest.now = omega (arith, ap length t.taken.parts, length-append (compact_text m.group) c.in_ok-after.after.now) in
+    let shorter : length c.in_ok-after.after.now ≤ length c.loop-left.rest.now =
+    omega (arith, ap length t.taken.parts, length-append (compact_text m.group) c.in_ok-after.after.now) in
     record {
-      so_far = ap (λ (gs : List (List ℕ)). with_front gs (groups_at (groups_for (c.loop-left.left - c.min-size.result)) (c.loop-left.place + (length c.loop-left.rest.now - length c.in_ok-after.after.now)) (c.loop-left.left - c.min-size.result) c.in_ok-after.after.now)) m.more
-          ∙ goes_on c.loop-left.groups c.loop-left.left c.loop-left.place c.min-size.result c.loop-left.rest.now m.group c.in_ok-after.after.now (groups_at (groups_for c.args.count) c.args.at c.args.count c.args.bytes.now) c.loop-left-test.true s m.read c.loop-left.invariant.so_far;
+      so_far = ap (λ (gs : List (List ℕ)).
+          with_front gs (groups_at (groups_for (c.loop-left.left - c.min-size.result))
+          (c.loop-left.place + (length c.loop-left.rest.now - length c.in_ok-after.after.now)) (c.loop-left.left - c.min-size.result) c.in_ok-after.after.now))
+          m.more
+          ∙ goes_on c.loop-left.groups c.loop-left.left c.loop-left.place c.min-size.result c.loop-left.rest.now m.group c.in_ok-after.after.now
+          (groups_at (groups_for c.args.count) c.args.at c.args.count c.args.bytes.now) c.loop-left-test.true s m.read c.loop-left.invariant.so_far;
       few = omega (arith, c.loop-left.invariant.few);
       places = omega (arith, c.loop-left.invariant.places, shorter);
       fits = t.taken.rest_fits;
@@ -38,5 +48,6 @@ loop-left-preserved c =
 
 pub returns : goal.returns
 returns c =
-    is_done c.loop-left.groups c.loop-left.left c.loop-left.place c.loop-left.rest.now (groups_at (groups_for c.args.count) c.args.at c.args.count c.args.bytes.now) (omega (arith, c.loop-left-test.false)) c.loop-left.invariant.so_far
+    is_done c.loop-left.groups c.loop-left.left c.loop-left.place c.loop-left.rest.now
+    (groups_at (groups_for c.args.count) c.args.at c.args.count c.args.bytes.now) (omega (arith, c.loop-left-test.false)) c.loop-left.invariant.so_far
     ∙ ap (λ (gs : List (List ℕ)). Ok (gs, c.loop-left.rest.now)) (sym c.shrink.ensures)

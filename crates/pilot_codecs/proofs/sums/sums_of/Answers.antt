@@ -8,7 +8,14 @@ pub loop-value-init : goal.loop-value-init
 loop-value-init c = record { so_far = c.in_ok-sums.ensures.items ∙ sums_from-nil; total_is = refl; most = omega arith }
 
 pub overflow_add-total : goal.overflow_add-total
-overflow_add-total c = omega (arith, c.loop-value.invariant.most, c.loop-value-test.true, c.requires.few, c.requires.small, get_or-le-greatest c.args.values.now c.loop-value.value-index)
+overflow_add-total c = omega (
+  arith,
+  c.loop-value.invariant.most,
+  c.loop-value-test.true,
+  c.requires.few,
+  c.requires.small,
+  get_or-le-greatest c.args.values.now c.loop-value.value-index,
+)
 
 pub loop-value-preserved : goal.loop-value-preserved
 loop-value-preserved c =
@@ -17,7 +24,8 @@ loop-value-preserved c =
     let inv = c.loop-value.invariant in
     let t = inv.total_is in
     record {
-      so_far = c.in_ok-push.ensures.items ∙ ap (λ (ss : List ℕ). ss ++ (c.loop-value.total + get_or vs i 0) ∷ []) inv.so_far ∙ ap (λ (x : ℕ). sums_from 0 (take i vs) ++ (x + get_or vs i 0) ∷ []) t ∙ sym (sums_from-more vs i c.loop-value-test.true);
+      so_far = c.in_ok-push.ensures.items ∙ ap (λ (ss : List ℕ). ss ++ (c.loop-value.total + get_or vs i 0) ∷ []) inv.so_far
+          ∙ ap (λ (x : ℕ). sums_from 0 (take i vs) ++ (x + get_or vs i 0) ∷ []) t ∙ sym (sums_from-more vs i c.loop-value-test.true);
       total_is = omega (arith, t, total-more vs i c.loop-value-test.true);
       most = omega (arith, inv.most, c.requires.small, get_or-le-greatest vs i);
     }

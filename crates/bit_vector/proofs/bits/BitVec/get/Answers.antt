@@ -5,7 +5,8 @@ use Rattle.bit_vector.proofs.bits.BitVec.get.Goals as goal
 
 pub bits_at-requires-clause-within : goal.bits_at-requires-clause-within
 bits_at-requires-clause-within c =
-    let n : length c.args.self.now ≡ c.self.inside.len = sym (ap length c.self.view_is) ∙ length-bits_of c.self.inside.len (words_number c.self.inside.words.items) in
+    let n : length c.args.self.now ≡ c.self.inside.len = sym (ap length c.self.view_is)
+    ∙ length-bits_of c.self.inside.len (words_number c.self.inside.words.items) in
     omega (arith, n, c.self.invariant.0.count, ap length c.deref.ensures.value)
 
 pub returns : goal.returns

@@ -9,11 +9,13 @@ unfolding bits_of
 none_put w n e = rw e refl
 
 pub returns-then-width-eq0-clause-ok : goal.returns-then-width-eq0-clause-ok
-returns-then-width-eq0-clause-ok c = sym (append-nil c.args.self.now) ∙ ap (λ (bs : List Bool). c.args.self.now ++ bs) (none_put c.args.width c.args.value c.if-width-eq0.true)
+returns-then-width-eq0-clause-ok c = sym (append-nil c.args.self.now)
+    ∙ ap (λ (bs : List Bool). c.args.self.now ++ bs) (none_put c.args.width c.args.value c.if-width-eq0.true)
 
 pub invariant_of-self-2 : goal.invariant_of-self-2
 invariant_of-self-2 c =
-    let n : length c.args.self.now ≡ c.self.inside.len = sym (ap length c.self.view_is) ∙ length-bits_of c.self.inside.len (words_number c.self.inside.words.items) in
+    let n : length c.args.self.now ≡ c.self.inside.len = sym (ap length c.self.view_is)
+    ∙ length-bits_of c.self.inside.len (words_number c.self.inside.words.items) in
     (rw c.from.ensures c.in_ok-append.ensures.packed, omega (arith, n))
 
 pub returns-clause-ok : goal.returns-clause-ok

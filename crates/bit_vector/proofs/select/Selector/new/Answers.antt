@@ -16,18 +16,28 @@ few_counts ws counts b counted most =
 
 pub counts_of-requires : goal.counts_of-requires
 counts_of-requires c =
-    let n : length c.args.bits ≡ c.bits.inside.len = sym (ap length c.bits.view_is) ∙ length-bits_of c.bits.inside.len (words_number c.bits.inside.words.items) in
+    let n : length c.args.bits ≡ c.bits.inside.len = sym (ap length c.bits.view_is)
+    ∙ length-bits_of c.bits.inside.len (words_number c.bits.inside.words.items) in
     omega (arith, n, ap length c.words.ensures, length-packed c.args.bits, c.bits.invariant.1)
 
 pub hints_of-requires-clause-most : goal.hints_of-requires-clause-most
 hints_of-requires-clause-most c = λ b.
-    let n : length c.args.bits ≡ c.bits.inside.len = sym (ap length c.bits.view_is) ∙ length-bits_of c.bits.inside.len (words_number c.bits.inside.words.items) in
-    let counted : IsCounted (packed c.args.bits) c.in_ok-counts.counts.items = subst (λ (ws : List ℕ). IsCounted ws c.in_ok-counts.counts.items) c.words.ensures c.in_ok-counts.ensures in
-    rw c.deref.ensures.value (few_counts (packed c.args.bits) c.in_ok-counts.counts.items b counted (λ k. omega (arith, n, length-packed c.args.bits, c.bits.invariant.1, all_ones-take-le (packed c.args.bits) k (AreWords-packed c.args.bits))))
+    let n : length c.args.bits ≡ c.bits.inside.len = sym (ap length c.bits.view_is)
+    ∙ length-bits_of c.bits.inside.len (words_number c.bits.inside.words.items) in
+    let counted : IsCounted (packed c.args.bits) c.in_ok-counts.counts.items =
+    subst (λ (ws : List ℕ). IsCounted ws c.in_ok-counts.counts.items) c.words.ensures c.in_ok-counts.ensures in
+    rw c.deref.ensures.value (few_counts (packed c.args.bits) c.in_ok-counts.counts.items b counted (λ k. omega (
+      arith,
+      n,
+      length-packed c.args.bits,
+      c.bits.invariant.1,
+      all_ones-take-le (packed c.args.bits) k (AreWords-packed c.args.bits),
+    )))
 
 pub invariant_of-result : goal.invariant_of-result
 invariant_of-result c =
-    let n : length c.args.bits ≡ c.bits.inside.len = sym (ap length c.bits.view_is) ∙ length-bits_of c.bits.inside.len (words_number c.bits.inside.words.items) in (
+    let n : length c.args.bits ≡ c.bits.inside.len = sym (ap length c.bits.view_is)
+    ∙ length-bits_of c.bits.inside.len (words_number c.bits.inside.words.items) in (
       subst (λ (ws : List ℕ). IsCounted ws c.in_ok-counts.counts.items) c.words.ensures c.in_ok-counts.ensures,
       subst (λ (cs : List ℕ). IsHinted c.in_ok-hints.hints.items cs) c.deref.ensures.value c.in_ok-hints.ensures,
       omega (arith, n, c.bits.invariant.1),

@@ -29,5 +29,6 @@ returns c =
     let lt : c.args.i < length vs = omega (arith, n, c.if-i-self.false) in
     let most = get_or-le-last 0 vs c.args.i c.self.invariant.rising lt in
     let fits : h * 2 ^ w < 2 ^ 64 = omega (arith, most, c.self.invariant.last_is, c.self.invariant.fits, c.part_at-high.ensures.value) in
-    let joined : bit_or (h * 2 ^ w % 2 ^ 64) l ≡ get_or vs c.args.i 0 = ap (λ (x : ℕ). bit_or x l) (mod-eq_of_lt fits) ∙ or_shifted h w l c.part_at-high.ensures.low ∙ c.part_at-high.ensures.value in
+    let joined : bit_or (h * 2 ^ w % 2 ^ 64) l ≡ get_or vs c.args.i 0 = ap (λ (x : ℕ). bit_or x l) (mod-eq_of_lt fits)
+    ∙ or_shifted h w l c.part_at-high.ensures.low ∙ c.part_at-high.ensures.value in
     ap Some joined ∙ sym (slice_get-is vs c.args.i 0 lt) ∙ ap (λ (xs : List ℕ). slice_get xs c.args.i) c.self.view_is

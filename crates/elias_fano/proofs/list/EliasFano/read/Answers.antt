@@ -11,7 +11,10 @@ returns-in_err-list-clause-only c =
     let bytes = c.args.bytes.now in
     let at = c.args.at in
     let p = err_from_is_err_and c.from_residual.result c.from_residual.ensures.1 in
-    rw (p.1, p.2) (λ vs next s. fails_not c.in_err-list.field-0.0 _ (vs, drop next bytes) (vs, next) (ap (λ (t : List ℕ). list_at at c.args.count t) (take_rest bytes at) ∙ spelled_again bytes at c.args.count vs next s) c.in_err-list.ensures)
+    rw (p.1, p.2) (λ vs next s. fails_not c.in_err-list.field-0.0 _ (vs, drop next bytes) (
+      vs,
+      next,
+    ) (ap (λ (t : List ℕ). list_at at c.args.count t) (take_rest bytes at) ∙ spelled_again bytes at c.args.count vs next s) c.in_err-list.ensures)
 
 pub overflow_sub-result : goal.overflow_sub-result
 overflow_sub-result c =
@@ -19,7 +22,8 @@ overflow_sub-result c =
     let at = c.args.at in
     let rest = c.in_ok-list.rest.now in
     let vs = c.in_ok-list.list in
-    let read : list_at at c.args.count (drop at bytes) ≡ Ok (vs, rest) = ap (λ (t : List ℕ). list_at at c.args.count t) (sym (take_rest bytes at)) ∙ c.in_ok-list.ensures in
+    let read : list_at at c.args.count (drop at bytes) ≡ Ok (vs, rest) = ap (λ (t : List ℕ). list_at at c.args.count t) (sym (take_rest bytes at))
+    ∙ c.in_ok-list.ensures in
     let t = list_takes at c.args.count (drop at bytes) vs rest (IsBytes-drop at bytes (λ i. omega (arith, c.type_inv.bytes i))) c.requires.few read in
     let s = spelled_at bytes at c.args.count vs rest c.requires.within t in
     omega (arith, s.0)
@@ -30,7 +34,8 @@ returns-clause-found c =
     let at = c.args.at in
     let rest = c.in_ok-list.rest.now in
     let vs = c.in_ok-list.list in
-    let read : list_at at c.args.count (drop at bytes) ≡ Ok (vs, rest) = ap (λ (t : List ℕ). list_at at c.args.count t) (sym (take_rest bytes at)) ∙ c.in_ok-list.ensures in
+    let read : list_at at c.args.count (drop at bytes) ≡ Ok (vs, rest) = ap (λ (t : List ℕ). list_at at c.args.count t) (sym (take_rest bytes at))
+    ∙ c.in_ok-list.ensures in
     let t = list_takes at c.args.count (drop at bytes) vs rest (IsBytes-drop at bytes (λ i. omega (arith, c.type_inv.bytes i))) c.requires.few read in
     let s = spelled_at bytes at c.args.count vs rest c.requires.within t in
     s.1
@@ -41,7 +46,8 @@ returns-clause-only c = λ vs2 next s2.
     let at = c.args.at in
     let rest = c.in_ok-list.rest.now in
     let vs = c.in_ok-list.list in
-    let read : list_at at c.args.count (drop at bytes) ≡ Ok (vs, rest) = ap (λ (t : List ℕ). list_at at c.args.count t) (sym (take_rest bytes at)) ∙ c.in_ok-list.ensures in
+    let read : list_at at c.args.count (drop at bytes) ≡ Ok (vs, rest) = ap (λ (t : List ℕ). list_at at c.args.count t) (sym (take_rest bytes at))
+    ∙ c.in_ok-list.ensures in
     let t = list_takes at c.args.count (drop at bytes) vs rest (IsBytes-drop at bytes (λ i. omega (arith, c.type_inv.bytes i))) c.requires.few read in
     let s = spelled_at bytes at c.args.count vs rest c.requires.within t in
     spelled_same bytes at c.args.count vs2 next vs rest s2 read c.requires.within
@@ -52,7 +58,8 @@ returns-clause-exact c =
     let at = c.args.at in
     let rest = c.in_ok-list.rest.now in
     let vs = c.in_ok-list.list in
-    let read : list_at at c.args.count (drop at bytes) ≡ Ok (vs, rest) = ap (λ (t : List ℕ). list_at at c.args.count t) (sym (take_rest bytes at)) ∙ c.in_ok-list.ensures in
+    let read : list_at at c.args.count (drop at bytes) ≡ Ok (vs, rest) = ap (λ (t : List ℕ). list_at at c.args.count t) (sym (take_rest bytes at))
+    ∙ c.in_ok-list.ensures in
     let t = list_takes at c.args.count (drop at bytes) vs rest (IsBytes-drop at bytes (λ i. omega (arith, c.type_inv.bytes i))) c.requires.few read in
     let s = spelled_at bytes at c.args.count vs rest c.requires.within t in
     read ∙ ap (λ (u : List ℕ). Ok (vs, u)) s.2

@@ -8,5 +8,6 @@ pub returns-else-is_err-clause-ok : goal.returns-else-is_err-clause-ok
 returns-else-is_err-clause-ok c =
     let e = c.self.inside in
     let text : number e.last ++ run e.low ++ run c.bits.result.now ≡ ef_text c.args.self.now =
-    ap (λ (bs : List Bool). number e.last ++ run e.low ++ run bs) c.bits.ensures ∙ sym (ef_text-values e.count e.last e.width e.low e.high c.self.invariant) ∙ ap (λ (vs : List ℕ). ef_text vs) c.self.view_is in
+    ap (λ (bs : List Bool). number e.last ++ run e.low ++ run bs) c.bits.ensures ∙ sym (ef_text-values e.count e.last e.width e.low e.high c.self.invariant)
+    ∙ ap (λ (vs : List ℕ). ef_text vs) c.self.view_is in
     on_ok-map c.put_list-written.result _ _ (λ h. h ∙ ap (λ (t : List ℕ). c.args.out.now.items ++ t) text) c.put_list-written.ensures.ok

@@ -17,4 +17,7 @@ invariant_of-result c =
 pub returns : goal.returns
 returns c =
     let ws = c.read_values.new.words.items in
-    subst (λ (xs : List ℕ). compact_at c.args.at c.args.count c.args.bytes.now ≡ Ok (values_in c.args.count c.in_ok-width.width (drop (length xs) ws), c.in_ok-width.rest.now)) c.new-words.ensures.items c.in_ok-width.ensures.values
+    subst (λ (xs : List ℕ). compact_at c.args.at c.args.count c.args.bytes.now ≡ Ok (
+      values_in c.args.count c.in_ok-width.width (drop (length xs) ws),
+      c.in_ok-width.rest.now,
+    )) c.new-words.ensures.items c.in_ok-width.ensures.values

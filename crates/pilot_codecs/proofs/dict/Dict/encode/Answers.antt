@@ -9,7 +9,12 @@ pub indexes_of-requires : goal.indexes_of-requires
 indexes_of-requires c = c.deref.ensures.value ∙ c.in_ok-entries.ensures
 
 pub encode-requires : goal.encode-requires
-encode-requires c = omega (arith, c.requires, ap length (c.deref-2.ensures.value ∙ c.in_ok-indexes.ensures), length-map c.args.values.now (index_in c.deref.result.now))
+encode-requires c = omega (
+  arith,
+  c.requires,
+  ap length (c.deref-2.ensures.value ∙ c.in_ok-indexes.ensures),
+  length-map c.args.values.now (index_in c.deref.result.now),
+)
 
 pub invariant_of-result : goal.invariant_of-result
 invariant_of-result c =
@@ -18,7 +23,8 @@ invariant_of-result c =
     let places : c.in_ok-places.places ≡ map (index_in (distinct vs)) vs =
     c.in_ok-places.ensures ∙ c.deref-2.ensures.value ∙ c.in_ok-indexes.ensures ∙ ap (λ (ds : List ℕ). map (index_in ds) vs) (c.deref.ensures.value ∙ entries) in
     let made : IsDictOf vs c.in_ok-entries.entries.items c.in_ok-places.places =
-    subst (λ (ds : List ℕ). IsDictOf vs ds c.in_ok-places.places) (sym entries) (subst (λ (ps : List ℕ). IsDictOf vs (distinct vs) ps) (sym places) (dict_made vs)) in
+    subst (λ (ds : List ℕ). IsDictOf vs ds c.in_ok-places.places) (sym entries)
+    (subst (λ (ps : List ℕ). IsDictOf vs (distinct vs) ps) (sym places) (dict_made vs)) in
     made.dict
 
 pub returns : goal.returns
@@ -28,5 +34,6 @@ returns c =
     let places : c.in_ok-places.places ≡ map (index_in (distinct vs)) vs =
     c.in_ok-places.ensures ∙ c.deref-2.ensures.value ∙ c.in_ok-indexes.ensures ∙ ap (λ (ds : List ℕ). map (index_in ds) vs) (c.deref.ensures.value ∙ entries) in
     let made : IsDictOf vs c.in_ok-entries.entries.items c.in_ok-places.places =
-    subst (λ (ds : List ℕ). IsDictOf vs ds c.in_ok-places.places) (sym entries) (subst (λ (ps : List ℕ). IsDictOf vs (distinct vs) ps) (sym places) (dict_made vs)) in
+    subst (λ (ds : List ℕ). IsDictOf vs ds c.in_ok-places.places) (sym entries)
+    (subst (λ (ps : List ℕ). IsDictOf vs (distinct vs) ps) (sym places) (dict_made vs)) in
     made.same

@@ -17,4 +17,5 @@ returns-then-size-count c = dict_at-size c.args.at c.args.count c.in_ok-size.siz
     ])
 
 pub returns : goal.returns
-returns c = rw (dict_at-entries c.args.at c.args.count c.in_ok-size.size c.args.bytes.now c.in_ok-size.rest.now c.in_ok-size.ensures c.if-size-count.false c.if-count-ne0.either) c.entries_of.ensures
+returns c = rw (dict_at-entries c.args.at c.args.count c.in_ok-size.size c.args.bytes.now c.in_ok-size.rest.now c.in_ok-size.ensures c.if-size-count.false
+    c.if-count-ne0.either) c.entries_of.ensures

@@ -13,7 +13,8 @@ overflow_mul-place c =
     let words = c.self.inside.words.items in
     let heads = c.self.inside.heads.items in
     let head = c.index-head.result.now in
-    let in_group : c.args.i < length (get_or (map (group_in words) heads) c.args.group []) = subst (λ (gs : List (List ℕ)). c.args.i < length (get_or gs c.args.group [])) (sym c.self.view_is) c.requires in
+    let in_group : c.args.i < length (get_or (map (group_in words) heads) c.args.group []) =
+    subst (λ (gs : List (List ℕ)). c.args.i < length (get_or gs c.args.group [])) (sym c.self.view_is) c.requires in
     let h = has_value words heads c.args.group c.args.i head c.self.invariant c.index-head.ensures in_group in
     let narrow : head.width ≤ 64 = omega (arith, h.group.compact.wide, digits_of-le (greatest (group_in words head))) in
     let few : c.args.i ≤ 2 ^ 30 = omega (arith, h.inside, h.group.compact.few) in
@@ -24,7 +25,8 @@ bits_at-requires-clause-wide c =
     let words = c.self.inside.words.items in
     let heads = c.self.inside.heads.items in
     let head = c.index-head.result.now in
-    let in_group : c.args.i < length (get_or (map (group_in words) heads) c.args.group []) = subst (λ (gs : List (List ℕ)). c.args.i < length (get_or gs c.args.group [])) (sym c.self.view_is) c.requires in
+    let in_group : c.args.i < length (get_or (map (group_in words) heads) c.args.group []) =
+    subst (λ (gs : List (List ℕ)). c.args.i < length (get_or gs c.args.group [])) (sym c.self.view_is) c.requires in
     let h = has_value words heads c.args.group c.args.i head c.self.invariant c.index-head.ensures in_group in
     omega (arith, h.group.compact.wide, digits_of-le (greatest (group_in words head)))
 
@@ -33,18 +35,25 @@ bits_at-requires-clause-within c =
     let words = c.self.inside.words.items in
     let heads = c.self.inside.heads.items in
     let head = c.index-head.result.now in
-    let in_group : c.args.i < length (get_or (map (group_in words) heads) c.args.group []) = subst (λ (gs : List (List ℕ)). c.args.i < length (get_or gs c.args.group [])) (sym c.self.view_is) c.requires in
+    let in_group : c.args.i < length (get_or (map (group_in words) heads) c.args.group []) =
+    subst (λ (gs : List (List ℕ)). c.args.i < length (get_or gs c.args.group [])) (sym c.self.view_is) c.requires in
     let h = has_value words heads c.args.group c.args.i head c.self.invariant c.index-head.ensures in_group in
     let place : c.args.i * c.from.result ≡ c.args.i * head.width = ap (λ (x : ℕ). c.args.i * x) c.from.ensures in
     let read : c.words_of.result.now ≡ words_under words head = c.words_of.ensures ∙ ap (λ (ws : List ℕ). words_under ws head) c.deref.ensures.value in
-    omega (arith, ap length read, value_within head.count head.width c.args.i (c.args.i * c.from.result) (words_under words head) h.group.compact h.inside place)
+    omega (
+      arith,
+      ap length read,
+      value_within head.count head.width c.args.i (c.args.i * c.from.result)
+          (words_under words head) h.group.compact h.inside place,
+    )
 
 pub returns : goal.returns
 returns c =
     let words = c.self.inside.words.items in
     let heads = c.self.inside.heads.items in
     let head = c.index-head.result.now in
-    let in_group : c.args.i < length (get_or (map (group_in words) heads) c.args.group []) = subst (λ (gs : List (List ℕ)). c.args.i < length (get_or gs c.args.group [])) (sym c.self.view_is) c.requires in
+    let in_group : c.args.i < length (get_or (map (group_in words) heads) c.args.group []) =
+    subst (λ (gs : List (List ℕ)). c.args.i < length (get_or gs c.args.group [])) (sym c.self.view_is) c.requires in
     let h = has_value words heads c.args.group c.args.i head c.self.invariant c.index-head.ensures in_group in
     let place : c.args.i * c.from.result ≡ c.args.i * head.width = ap (λ (x : ℕ). c.args.i * x) c.from.ensures in
     let read : c.words_of.result.now ≡ words_under words head = c.words_of.ensures ∙ ap (λ (ws : List ℕ). words_under ws head) c.deref.ensures.value in

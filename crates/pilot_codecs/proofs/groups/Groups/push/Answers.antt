@@ -6,12 +6,14 @@ use Rattle.pilot_codecs.proofs.HeadLemmas.{IsAdded, AreGroups-kept, groups-kept,
 use Rattle.pilot_codecs.proofs.groups.Groups.push.Goals as goal
 
 pub invariant_of-self : goal.invariant_of-self
-invariant_of-self c = AreGroups-kept c.self.inside.words.items c.append_values.new.words.items c.self.inside.heads.items c.append_values.ensures.kept c.self.invariant
+invariant_of-self c = AreGroups-kept c.self.inside.words.items c.append_values.new.words.items c.self.inside.heads.items c.append_values.ensures.kept
+    c.self.invariant
 
 pub returns-in_err-width-clause-err : goal.returns-in_err-width-clause-err
 returns-in_err-width-clause-err c =
     let p = err_from_is_err_and c.from_residual.result c.from_residual.ensures.1 in
-    rw p.1 (groups-kept c.self.inside.words.items c.append_values.new.words.items c.self.inside.heads.items c.append_values.ensures.kept c.self.invariant ∙ c.self.view_is)
+    rw p.1 (groups-kept c.self.inside.words.items c.append_values.new.words.items c.self.inside.heads.items c.append_values.ensures.kept c.self.invariant
+    ∙ c.self.view_is)
 
 pub invariant_of-self-in_err-push : goal.invariant_of-self-in_err-push
 invariant_of-self-in_err-push c =
@@ -34,7 +36,11 @@ invariant_of-self-2 c =
     let new = c.append_values.new.words.items in
     let heads = c.self.inside.heads.items in
     let head : Head = record { count = length c.args.values.now; width = c.in_ok-width.width; start = c.len-start.result } in
-    let added : IsAdded old new head = record { kept = c.append_values.ensures.kept; start = omega (arith, c.len-start.ensures, c.self.inside.words.ok.0); compact = c.in_ok-width.ensures.compact } in
+    let added : IsAdded old new head = record {
+      kept = c.append_values.ensures.kept;
+      start = omega (arith, c.len-start.ensures, c.self.inside.words.ok.0);
+      compact = c.in_ok-width.ensures.compact;
+    } in
     AreGroups-added old new heads c.push.new.self.items head c.self.invariant added c.in_ok-push.ensures.items
 
 pub returns-clause-ok : goal.returns-clause-ok
@@ -43,7 +49,11 @@ returns-clause-ok c =
     let new = c.append_values.new.words.items in
     let heads = c.self.inside.heads.items in
     let head : Head = record { count = length c.args.values.now; width = c.in_ok-width.width; start = c.len-start.result } in
-    let added : IsAdded old new head = record { kept = c.append_values.ensures.kept; start = omega (arith, c.len-start.ensures, c.self.inside.words.ok.0); compact = c.in_ok-width.ensures.compact } in
+    let added : IsAdded old new head = record {
+      kept = c.append_values.ensures.kept;
+      start = omega (arith, c.len-start.ensures, c.self.inside.words.ok.0);
+      compact = c.in_ok-width.ensures.compact;
+    } in
     groups-added old new heads c.push.new.self.items head c.self.invariant added c.in_ok-push.ensures.items
     ∙ ap (λ (gs : List (List ℕ)). gs ++ values_in head.count head.width (drop (length old) new) ∷ []) c.self.view_is
     ∙ ap (λ (vs : List ℕ). c.args.self.now ++ vs ∷ []) c.in_ok-width.ensures.values

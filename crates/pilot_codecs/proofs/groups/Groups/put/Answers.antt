@@ -19,7 +19,8 @@ loop-head-preserved c =
     let text = number head.width ++ flat_map number c.words_of.result.now in
     let so_far : c.loop-head.out.items ≡ old ++ flat_map compact_text (map (group_in words) (take i heads)) = c.loop-head.invariant in
     let lt : i < length heads = omega (arith, ap length c.deref-head-items.ensures.value, c.loop-head-test.true) in
-    let head_is : head ≡ get_or heads i head = ap (λ (hs : List Head). get_or hs i none) c.deref-head-items.ensures.value ∙ get_or_default heads i none head lt in
+    let head_is : head ≡ get_or heads i head = ap (λ (hs : List Head). get_or hs i none) c.deref-head-items.ensures.value
+    ∙ get_or_default heads i none head lt in
     let read : c.words_of.result.now ≡ words_under words head = c.words_of.ensures ∙ ap (λ (ws : List ℕ). words_under ws head) c.deref.ensures.value in
     let text_is : text ≡ number head.width ++ flat_map number (words_under words head) = ap (λ (ws : List ℕ). number head.width ++ flat_map number ws) read in
     c.in_ok-put_values.ensures.ok ∙ ap (λ (t : List ℕ). t ++ text) so_far ∙ append_assoc old (flat_map compact_text (map (group_in words) (take i heads))) text

@@ -7,7 +7,8 @@ use Rattle.pilot_codecs.proofs.HeadLemmas.{IsAdded, AreGroups-kept, groups-kept,
 use Rattle.pilot_codecs.proofs.groups.Groups.read_more.Goals as goal
 
 pub invariant_of-self : goal.invariant_of-self
-invariant_of-self c = AreGroups-kept c.self.inside.words.items c.read_values.new.words.items c.self.inside.heads.items c.read_values.ensures.kept c.self.invariant
+invariant_of-self c = AreGroups-kept c.self.inside.words.items c.read_values.new.words.items c.self.inside.heads.items c.read_values.ensures.kept
+    c.self.invariant
 
 pub returns-in_err-width-clause-groups : goal.returns-in_err-width-clause-groups
 returns-in_err-width-clause-groups c =
@@ -27,7 +28,11 @@ invariant_of-self-2 c =
     let new = c.read_values.new.words.items in
     let heads = c.self.inside.heads.items in
     let head : Head = record { count = c.args.count; width = c.in_ok-width.width; start = c.len-start.result } in
-    let added : IsAdded old new head = record { kept = c.read_values.ensures.kept; start = omega (arith, c.len-start.ensures, c.self.inside.words.ok.0); compact = c.in_ok-width.ensures.compact } in
+    let added : IsAdded old new head = record {
+      kept = c.read_values.ensures.kept;
+      start = omega (arith, c.len-start.ensures, c.self.inside.words.ok.0);
+      compact = c.in_ok-width.ensures.compact;
+    } in
     AreGroups-added old new heads c.push.new.self.items head c.self.invariant added c.in_ok-push.ensures.items
 
 pub returns-clause-groups : goal.returns-clause-groups
@@ -36,18 +41,25 @@ returns-clause-groups c =
     let new = c.read_values.new.words.items in
     let heads = c.self.inside.heads.items in
     let head : Head = record { count = c.args.count; width = c.in_ok-width.width; start = c.len-start.result } in
-    let added : IsAdded old new head = record { kept = c.read_values.ensures.kept; start = omega (arith, c.len-start.ensures, c.self.inside.words.ok.0); compact = c.in_ok-width.ensures.compact } in
+    let added : IsAdded old new head = record {
+      kept = c.read_values.ensures.kept;
+      start = omega (arith, c.len-start.ensures, c.self.inside.words.ok.0);
+      compact = c.in_ok-width.ensures.compact;
+    } in
     let group = values_in c.args.count c.in_ok-width.width (drop (length old) new) in
-    let more = groups-added old new heads c.push.new.self.items head c.self.invariant added c.in_ok-push.ensures.items ∙ ap (λ (gs : List (List ℕ)). gs ++ group ∷ []) c.self.view_is in
+    let more = groups-added old new heads c.push.new.self.items head c.self.invariant added c.in_ok-push.ensures.items
+    ∙ ap (λ (gs : List (List ℕ)). gs ++ group ∷ []) c.self.view_is in
     group_more_at-ok c.args.self.now c.args.at c.args.count c.args.bytes.now group c.in_ok-width.rest.now c.in_ok-width.ensures.values
     ∙ ap (λ (gs : List (List ℕ)). Ok (gs, c.in_ok-width.rest.now)) (sym more)
 
 pub returns-in_err-width-clause-err : goal.returns-in_err-width-clause-err
 returns-in_err-width-clause-err c =
     let p = err_from_is_err_and c.from_residual.result c.from_residual.ensures.1 in
-    rw p.1 (groups-kept c.self.inside.words.items c.read_values.new.words.items c.self.inside.heads.items c.read_values.ensures.kept c.self.invariant ∙ c.self.view_is)
+    rw p.1 (groups-kept c.self.inside.words.items c.read_values.new.words.items c.self.inside.heads.items c.read_values.ensures.kept c.self.invariant
+    ∙ c.self.view_is)
 
 pub returns-in_err-push-clause-err : goal.returns-in_err-push-clause-err
 returns-in_err-push-clause-err c =
     let p = err_from_is_err_and c.from_residual-in_err-push.result c.from_residual-in_err-push.ensures.1 in
-    rw (p.1, c.in_err-push.ensures.items) (groups-kept c.self.inside.words.items c.read_values.new.words.items c.self.inside.heads.items c.read_values.ensures.kept c.self.invariant ∙ c.self.view_is)
+    rw (p.1, c.in_err-push.ensures.items)
+    (groups-kept c.self.inside.words.items c.read_values.new.words.items c.self.inside.heads.items c.read_values.ensures.kept c.self.invariant ∙ c.self.view_is)

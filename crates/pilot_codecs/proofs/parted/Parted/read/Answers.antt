@@ -11,7 +11,8 @@ returns-in_err-groups c =
 
 pub invariant_of-result : goal.invariant_of-result
 invariant_of-result c =
-    let t = groups_take (groups_for c.args.count) c.args.at c.args.count c.args.bytes.now c.in_ok-groups.groups c.in_ok-groups.rest.now refl (λ i. omega (arith, c.type_inv.bytes i)) c.in_ok-groups.ensures in
+    let t = groups_take (groups_for c.args.count) c.args.at c.args.count c.args.bytes.now c.in_ok-groups.groups c.in_ok-groups.rest.now refl
+    (λ i. omega (arith, c.type_inv.bytes i)) c.in_ok-groups.ensures in
     record { few = c.requires.few; count_is = t.count_is; cut = t.cut }
 
 pub returns : goal.returns

@@ -12,7 +12,8 @@ pub build-requires-clause-few : goal.build-requires-clause-few
 build-requires-clause-few c = omega (arith, ap length (c.deref.ensures.value ∙ c.in_ok-sums.ensures), length-sums_from 0 c.args.values.now, c.requires.few)
 
 pub returns : goal.returns
-returns c = ap (λ (ss : List ℕ). steps_from 0 ss) (c.in_ok-list.ensures ∙ c.deref.ensures.value ∙ c.in_ok-sums.ensures) ∙ steps_from-sums_from 0 c.args.values.now
+returns c = ap (λ (ss : List ℕ). steps_from 0 ss) (c.in_ok-list.ensures ∙ c.deref.ensures.value ∙ c.in_ok-sums.ensures)
+    ∙ steps_from-sums_from 0 c.args.values.now
 
 pub invariant_of-result : goal.invariant_of-result
 invariant_of-result c =

@@ -5,4 +5,6 @@ use Rattle.pilot_codecs.proofs.SumLemmas.{sums_from-steps_from}
 use Rattle.pilot_codecs.proofs.sums.Sums.put.Goals as goal
 
 pub returns-clause-ok : goal.returns-clause-ok
-returns-clause-ok c = c.in_ok-write.ensures.ok ∙ ap (λ (ss : List ℕ). c.args.out.now.items ++ ef_text ss) (sym (sums_from-steps_from 0 c.self.inside.list c.self.invariant.rising)) ∙ ap (λ (vs : List ℕ). c.args.out.now.items ++ ef_text (sums_from 0 vs)) c.self.view_is
+returns-clause-ok c = c.in_ok-write.ensures.ok
+    ∙ ap (λ (ss : List ℕ). c.args.out.now.items ++ ef_text ss) (sym (sums_from-steps_from 0 c.self.inside.list c.self.invariant.rising))
+    ∙ ap (λ (vs : List ℕ). c.args.out.now.items ++ ef_text (sums_from 0 vs)) c.self.view_is

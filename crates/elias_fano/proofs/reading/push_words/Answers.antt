@@ -2,7 +2,7 @@ use Rattle.std.proofs.Common.{◌≡◌, ℕ, ◌++◌, List, [], ◌∷◌, sym
 use Rattle.std.proofs.lemmas.List.{append-nil}
 use Rattle.elias_fano.specs.Reading.{words_in}
 use Rattle.elias_fano.proofs.FormLemmas.{words_in-none, words_in-more}
-use Rattle.elias_fano.proofs.reading.append_words.Goals as goal
+use Rattle.elias_fano.proofs.reading.push_words.Goals as goal
 
 pub loop-i-init : goal.loop-i-init
 loop-i-init c =

@@ -1,0 +1,9 @@
+-- What crates above use of numbers, runs of bits and whole lists.
+pub use Rattle.elias_fano.proofs.WidthLemmas.{log2_is, log2-le}
+pub use Rattle.elias_fano.proofs.ValueLemmas.{slice_get-some, slice_get-none, slice_get-is, low-lt, rises-yes, rises-parts, below_len-le, below_len-gt}
+pub use Rattle.elias_fano.proofs.ValueLemmas.{below_len-most, below_len-all}
+pub use Rattle.elias_fano.proofs.BuildLemmas.{is_among-push, on_ok-map}
+pub use Rattle.elias_fano.proofs.FormLemmas.{IsBytes, length-words_in, IsBytes-drop, IsBytes-take, words_in-fit, packed_if_clear}
+pub use Rattle.elias_fano.proofs.LawLemmas.{bind_ok, guard_ok, guard_last, done, ok_is, Takes, Takes-then, number_takes, number_again, words_written}
+pub use Rattle.elias_fano.proofs.LawLemmas.{words_again, length-numbers, run_takes, run_again, IsTaken, list_takes, list_again, fails_not, length-run}
+pub use Rattle.elias_fano.proofs.LawLemmas.{length-ef_text, spelled_among}

@@ -1,0 +1,105 @@
+use Rattle.std.proofs.Common.{◌≡◌, ℕ, ◌+◌, ◌-◌, ◌*◌, ◌^◌, ◌<◌, Bool, List, length, take, drop, get_or, Some, sym, ap, subst, ◌∙◌, arith}
+use Rattle.std.specs.Prelude.{IsSome}
+use Rattle.std.specs.List.{slice_get}
+use Rattle.bit_vector.specs.Bits.{number_of, ones, places}
+use Rattle.elias_fano.specs.Values.{values_of, AreParts}
+use Rattle.elias_fano.proofs.ValueLemmas.{low-lt}
+use Rattle.elias_fano.proofs.PartLemmas.{IsPart, has_place, part_is, high-most}
+use Rattle.elias_fano.proofs.parts.two_parts.Goals as goal
+
+-- the part of the next value
+next_is : (count last w : ℕ) (low high : List Bool) (i place : ℕ) (r : Rattle.std.proofs.Common.Option ℕ) (next : ℕ) → AreParts count last w low high →
+    i + 1 < count → IsPart count last w low high i place → r ≡ slice_get (places high) (ones (take (place + 1) high)) → r ≡ Some next →
+    IsPart count last w low high (i + 1) next
+next_is count last w low high i place r next parts lt p e f =
+    part_is count last w low high (i + 1) next parts lt (ap (λ (k : ℕ). slice_get (places high) k) (sym p.step) ∙ sym e ∙ f)
+
+-- the value of a part
+value_is : (count last w : ℕ) (low high : List Bool) (i place : ℕ) (here : ℕ × ℕ) → IsPart count last w low high i place → here.0 ≡ place - i →
+    here.1 ≡ number_of (take w (drop (i * w) low)) → (here.0 * 2 ^ w + here.1 ≡ get_or (values_of w low high) i 0) × (here.1 < 2 ^ w)
+value_is count last w low high i place here p high_is low_is = (
+  ap (λ (x : ℕ). x * 2 ^ w + here.1) high_is ∙ ap (λ (x : ℕ). (place - i) * 2 ^ w + x) low_is ∙ p.value,
+  subst (λ (x : ℕ). x < 2 ^ w) (sym low_is) (low-lt w (drop (i * w) low)),
+)
+
+pub unwrap-place-requires : goal.unwrap-place-requires
+unwrap-place-requires c =
+    rw c.select1.ensures (has_place c.args.count c.args.last c.args.width c.args.low.now c.args.high.now c.args.i c.requires.parts (omega (arith, c.requires.within)))
+
+pub overflow_add-place : goal.overflow_add-place
+overflow_add-place c =
+    let most = high-most c.args.count c.args.last c.args.width c.args.low.now c.args.high.now c.requires.parts (omega (arith, c.requires.within)) c.ranges.last.fits in
+    let p = part_is c.args.count c.args.last c.args.width c.args.low.now c.args.high.now c.args.i c.unwrap-place.result c.requires.parts
+    (omega (arith, c.requires.within)) (sym c.select1.ensures ∙ c.unwrap-place.ensures) in
+    omega (arith, most, p.here)
+
+pub next1-requires : goal.next1-requires
+next1-requires c =
+    let p = part_is c.args.count c.args.last c.args.width c.args.low.now c.args.high.now c.args.i c.unwrap-place.result c.requires.parts
+    (omega (arith, c.requires.within)) (sym c.select1.ensures ∙ c.unwrap-place.ensures) in
+    omega (arith, p.here)
+
+pub unwrap-next-requires : goal.unwrap-next-requires
+unwrap-next-requires c =
+    let p = part_is c.args.count c.args.last c.args.width c.args.low.now c.args.high.now c.args.i c.unwrap-place.result c.requires.parts
+    (omega (arith, c.requires.within)) (sym c.select1.ensures ∙ c.unwrap-place.ensures) in
+    let there = has_place c.args.count c.args.last c.args.width c.args.low.now c.args.high.now (c.args.i + 1) c.requires.parts c.requires.within in
+    rw c.next1.ensures (subst (λ (k : ℕ). IsSome (slice_get (places c.args.high.now) k)) (sym p.step) there)
+
+pub part_of-requires-clause-wide : goal.part_of-requires-clause-wide
+part_of-requires-clause-wide c = (part_is c.args.count c.args.last c.args.width c.args.low.now c.args.high.now c.args.i c.unwrap-place.result c.requires.parts
+    (omega (arith, c.requires.within)) (sym c.select1.ensures ∙ c.unwrap-place.ensures)).wide
+
+pub part_of-requires-clause-within : goal.part_of-requires-clause-within
+part_of-requires-clause-within c = (part_is c.args.count c.args.last c.args.width c.args.low.now c.args.high.now c.args.i c.unwrap-place.result c.requires.parts
+    (omega (arith, c.requires.within)) (sym c.select1.ensures ∙ c.unwrap-place.ensures)).within
+
+pub part_of-requires-clause-before : goal.part_of-requires-clause-before
+part_of-requires-clause-before c = (part_is c.args.count c.args.last c.args.width c.args.low.now c.args.high.now c.args.i c.unwrap-place.result c.requires.parts
+    (omega (arith, c.requires.within)) (sym c.select1.ensures ∙ c.unwrap-place.ensures)).before
+
+pub part_of-requires-2-clause-wide : goal.part_of-requires-2-clause-wide
+part_of-requires-2-clause-wide c = (part_is c.args.count c.args.last c.args.width c.args.low.now c.args.high.now c.args.i c.unwrap-place.result c.requires.parts
+    (omega (arith, c.requires.within)) (sym c.select1.ensures ∙ c.unwrap-place.ensures)).wide
+
+pub part_of-requires-2-clause-within : goal.part_of-requires-2-clause-within
+part_of-requires-2-clause-within c =
+    let p = part_is c.args.count c.args.last c.args.width c.args.low.now c.args.high.now c.args.i c.unwrap-place.result c.requires.parts
+    (omega (arith, c.requires.within)) (sym c.select1.ensures ∙ c.unwrap-place.ensures) in
+    let q = next_is c.args.count c.args.last c.args.width c.args.low.now c.args.high.now c.args.i c.unwrap-place.result c.next1.result c.unwrap-next.result
+    c.requires.parts c.requires.within p c.next1.ensures c.unwrap-next.ensures in
+    q.within
+
+pub part_of-requires-2-clause-before : goal.part_of-requires-2-clause-before
+part_of-requires-2-clause-before c =
+    let p = part_is c.args.count c.args.last c.args.width c.args.low.now c.args.high.now c.args.i c.unwrap-place.result c.requires.parts
+    (omega (arith, c.requires.within)) (sym c.select1.ensures ∙ c.unwrap-place.ensures) in
+    let q = next_is c.args.count c.args.last c.args.width c.args.low.now c.args.high.now c.args.i c.unwrap-place.result c.next1.result c.unwrap-next.result
+    c.requires.parts c.requires.within p c.next1.ensures c.unwrap-next.ensures in
+    q.before
+
+pub returns-clause-value : goal.returns-clause-value
+returns-clause-value c =
+    let p = part_is c.args.count c.args.last c.args.width c.args.low.now c.args.high.now c.args.i c.unwrap-place.result c.requires.parts
+    (omega (arith, c.requires.within)) (sym c.select1.ensures ∙ c.unwrap-place.ensures) in
+    let v = value_is c.args.count c.args.last c.args.width c.args.low.now c.args.high.now c.args.i c.unwrap-place.result c.part_of.result p
+    c.part_of.ensures.high c.part_of.ensures.low in
+    v.0
+
+pub returns-clause-low : goal.returns-clause-low
+returns-clause-low c =
+    subst (λ (x : ℕ). x < 2 ^ c.args.width) (sym c.part_of.ensures.low) (low-lt c.args.width (drop (c.args.i * c.args.width) c.args.low.now))
+
+pub returns-clause-next : goal.returns-clause-next
+returns-clause-next c =
+    let p = part_is c.args.count c.args.last c.args.width c.args.low.now c.args.high.now c.args.i c.unwrap-place.result c.requires.parts
+    (omega (arith, c.requires.within)) (sym c.select1.ensures ∙ c.unwrap-place.ensures) in
+    let q = next_is c.args.count c.args.last c.args.width c.args.low.now c.args.high.now c.args.i c.unwrap-place.result c.next1.result c.unwrap-next.result
+    c.requires.parts c.requires.within p c.next1.ensures c.unwrap-next.ensures in
+    let v = value_is c.args.count c.args.last c.args.width c.args.low.now c.args.high.now (c.args.i + 1) c.unwrap-next.result c.part_of-2.result q
+    c.part_of-2.ensures.high c.part_of-2.ensures.low in
+    v.0
+
+pub returns-clause-next_low : goal.returns-clause-next_low
+returns-clause-next_low c =
+    subst (λ (x : ℕ). x < 2 ^ c.args.width) (sym c.part_of-2.ensures.low) (low-lt c.args.width (drop ((c.args.i + 1) * c.args.width) c.args.low.now))

@@ -1,0 +1,38 @@
+use Rattle.std.proofs.Common.{◌≡◌, ℕ, ◌+◌, ◌<◌, ◌≤◌, List, length, get_or, Some, sym, ◌∙◌, arith}
+use Rattle.std.specs.List.{slice_get}
+use Rattle.elias_fano.specs.Values.{below_len}
+use Rattle.elias_fano.proofs.CallerLemmas.{slice_get-some, slice_get-is, below_len-le, below_len-most}
+use Rattle.pilot_codecs.specs.Values.{values_of}
+use Rattle.pilot_codecs.proofs.DictLemmas.{some_is}
+use Rattle.pilot_codecs.proofs.BelowLemmas.{below_more}
+use Rattle.pilot_codecs.proofs.part.part_below.Goals as goal
+
+-- a value that was found
+found : (vs : List ℕ) (i v : ℕ) → i < length vs → slice_get vs i ≡ Some v → get_or vs i 0 ≡ v
+found vs i v lt e = some_is (get_or vs i 0) v (sym (slice_get-is vs i 0 lt) ∙ e)
+
+pub returns-then-is_within : goal.returns-then-is_within
+returns-then-is_within c = c.part_len-len.ensures ∙ sym (c.is_within.ensures c.if-is_within.true)
+
+pub unwrap-value-requires : goal.unwrap-value-requires
+unwrap-value-requires c =
+    rw c.part_get.ensures (slice_get-some (values_of c.args.part.now) c.loop-i.i (omega (arith, c.loop-i-test.true, c.part_len-len.ensures)))
+
+pub returns-then-value-bound : goal.returns-then-value-bound
+returns-then-value-bound c =
+    let vs = values_of c.args.part.now in
+    let i = c.loop-i.i in
+    let lt : i < length vs = omega (arith, c.loop-i-test.true, c.part_len-len.ensures) in
+    let value = found vs i c.unwrap-value.result lt (sym c.part_get.ensures ∙ c.unwrap-value.ensures) in
+    omega (arith, c.loop-i.invariant, below_len-le c.args.bound vs i (omega (arith, value, c.if-value-bound.true)))
+
+pub loop-i-preserved : goal.loop-i-preserved
+loop-i-preserved c =
+    let vs = values_of c.args.part.now in
+    let i = c.loop-i.i in
+    let lt : i < length vs = omega (arith, c.loop-i-test.true, c.part_len-len.ensures) in
+    let value = found vs i c.unwrap-value.result lt (sym c.part_get.ensures ∙ c.unwrap-value.ensures) in
+    below_more c.args.bound vs i c.loop-i.invariant lt (omega (arith, value, c.if-value-bound.false))
+
+pub returns : goal.returns
+returns c = omega (arith, c.loop-i.invariant, c.loop-i-test.false, c.part_len-len.ensures, below_len-most c.args.bound (values_of c.args.part.now))
