@@ -8,6 +8,7 @@ pub mod OrderLaws
 pub mod Search
 pub mod Least
 pub mod SearchLaws
+pub mod PositionLaws
 pub mod ByBucket
 pub mod ByBucketLaws
 pub mod Examples
