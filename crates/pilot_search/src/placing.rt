@@ -67,7 +67,15 @@ fn place_bucket(
     ensures stuck { IfErr result (λ stuck. IsStuckAt plan.now stuck) }
 {
     let members = plan.members(rank);
-    match find_pilot(members, first, plan.seed(), plan.limit(), size, occupied, positions) {
+    match find_pilot(
+        members,
+        first,
+        plan.seed(),
+        plan.limit(),
+        size,
+        occupied,
+        positions,
+    ) {
         Some(pilot) => {
             pilots[rank as usize] = pilot;
             occupied.take_all(&positions[..members.len()]);

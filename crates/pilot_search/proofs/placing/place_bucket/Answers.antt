@@ -1,8 +1,8 @@
-use Rattle.std.proofs.Common.{ℕ, List, sym, ap, ◌∙◌, arith}
+use Rattle.std.proofs.Common.{sym, ap, ◌∙◌, arith}
 use Rattle.std.specs.Prelude.{nat_lt}
 use Rattle.std.specs.List.{list_all}
 use Rattle.std.specs.FinSet as set
-use Rattle.pthash.specs.Search.{positions_of, pilot_of}
+use Rattle.pthash.specs.Search.{positions_of}
 use Rattle.pthash.specs.PositionLaws.{positions_below}
 use Rattle.pilot_search.proofs.Steps.{IsTask, task_pilot, task_positions, placed_more, stuck_here}
 use Rattle.pilot_search.proofs.placing.place_bucket.Goals as goal

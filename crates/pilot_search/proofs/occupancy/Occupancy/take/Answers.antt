@@ -1,4 +1,4 @@
-use Rattle.std.proofs.Common.{◌≡◌, ◌*◌, ◌<◌, ◌+◌, ℕ, List, false, length, take, drop, ◌++◌, get_or, refl, ap, sym, ◌∙◌, arith}
+use Rattle.std.proofs.Common.{◌≡◌, ◌<◌, ◌+◌, false, length, ap, sym, ◌∙◌, arith}
 use Rattle.std.specs.FinSet.{contains, insert, len}
 use Rattle.pthash.specs.Search.{set_of}
 use Rattle.pthash.specs.PositionLaws.{contains-set_of_below, insert_known, len-set_of, len-insert_new}
