@@ -17,6 +17,7 @@ pub mod Least
 pub mod Apart
 pub mod ApartCounts
 pub mod SearchLaws
+pub mod PositionLaws
 pub mod PrefixLaws
 pub mod ByBucket
 pub mod ByBucketLaws
