@@ -13,4 +13,5 @@ pub mod AttemptParts
 pub mod ValueLaws
 pub mod AttemptLaws
 pub mod Outcome
+pub mod IndexLaws
 pub mod OutcomeLaws
