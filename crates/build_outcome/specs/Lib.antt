@@ -14,4 +14,5 @@ pub mod ValueLaws
 pub mod AttemptLaws
 pub mod Outcome
 pub mod IndexLaws
+pub mod ValidityLaws
 pub mod OutcomeLaws
