@@ -16,3 +16,4 @@ pub mod Outcome
 pub mod IndexLaws
 pub mod ValidityLaws
 pub mod OutcomeLaws
+pub mod BuiltLaws
