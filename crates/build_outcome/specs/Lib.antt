@@ -13,4 +13,7 @@ pub mod AttemptParts
 pub mod ValueLaws
 pub mod AttemptLaws
 pub mod Outcome
+pub mod IndexLaws
+pub mod ValidityLaws
 pub mod OutcomeLaws
+pub mod BuiltLaws

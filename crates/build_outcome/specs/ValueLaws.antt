@@ -6,7 +6,7 @@ use Rattle.std.proofs.Common.{refl, sym, ap, ◌∙◌, subst, arith, ⊎_elim}
 use Rattle.std.proofs.lemmas.Bool.{and_parts, cases_lt, cases_order, eq-eqb, eqb-true, lt-ltb, ltb-true}
 use Rattle.std.proofs.lemmas.List.{nil_from_length, get_or_past}
 use Rattle.std.proofs.lemmas.List.Elements.{All-head, All-tail, filter_passes}
-use Rattle.std.proofs.lemmas.List.Sums.{list_all-from_AllPass}
+use Rattle.std.proofs.lemmas.List.Sums.{list_all-from_AllPass, AllPass-from_list_all}
 use Rattle.pthash.specs.declared.Record.{Record}
 use Rattle.pthash.specs.Apart.{are_apart-by_class, are_apart-by_images, are_apart-where, is_distinct-map}
 use Rattle.pthash.specs.ApartCounts.{filter_has_some}
@@ -16,7 +16,7 @@ use Rattle.pthash.specs.RecordLaws.{HashesFit}
 use Rattle.pthash.specs.Search.{is_distinct}
 use Rattle.pthash.specs.Sizes.{partition_of}
 use Rattle.build_outcome.specs.Attempt.{Rules, part_of, parts_from}
-use Rattle.build_outcome.specs.AttemptParts.{ArePartsOf, parts_from-ArePartsOf, part_of-count, key_count-parts, key_count-later}
+use Rattle.build_outcome.specs.AttemptParts.{ArePartsOf, parts_from-ArePartsOf, part_of-count, key_count-parts, key_count-later, key_count-all}
 use Rattle.build_outcome.specs.Index.{PartData}
 use Rattle.build_outcome.specs.PartLaws.{AreRules, HasFinished, part_of-some, pair_number, pair_numbers_differ, pair_number-below}
 use Rattle.build_outcome.specs.Values.{part_at, key_count}
@@ -194,3 +194,17 @@ record_numbers_differ rules seed records parts has =
     (are_apart-by_class test (part_number rules.parts) rules.parts one_part records below
     (λ q lower. are_apart-by_images test (number_within rules seed parts) one_number (records_in records rules.parts q)
     (numbers_within_differ rules seed records parts q has lower)))
+
+-- the number of each record is below the number of records
+pub record_number-below : (rules : Rules) (seed : ℕ) (records : List Record) (parts : List PartData) → HasParts rules seed records parts
+    → All (λ r. record_number rules seed parts r < length records) records
+record_number-below rules seed records parts has i d within =
+    let r : Record = slice_index_or records i d in
+    let q : ℕ = part_number rules.parts r in
+    let inside : is_within rules seed parts r ≡ true =
+    AllPass-from_list_all (is_within rules seed parts) records (all_within rules seed records parts has) i d within in
+    let lower : number_within rules seed parts r < (part_at parts q).n = ltb-true (number_within rules seed parts r) (part_at parts q).n inside in
+    let most : key_count (take q parts) + (part_at parts q).n ≤ key_count parts =
+    key_count-all parts q (within_parts parts q (number_within rules seed parts r) lower) in
+    let count : key_count parts ≡ length records = key_count-records rules seed records parts has in
+    omega arith
