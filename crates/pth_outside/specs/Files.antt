@@ -2,6 +2,7 @@
 use Rattle.std.specs.Prelude.{◌≡◌, ℕ, ◌+◌, ◌-◌, ◌^◌, ◌<◌, ◌≤◌, min, ◌↔◌, ◌⊎◌, Bool, IsTrue}
 use Rattle.std.specs.Prelude.{List, [], ◌++◌, length, take, drop}
 use Rattle.std.specs.Prelude.{Option, None, Some, IsSome, IsSomeAnd, option_map, option_and_then}
+use Rattle.std.specs.Option.{ForSome}
 use Rattle.std.specs.Ordering.{nat_cmp}
 use Rattle.std.specs.Cmp.Lexicographic.{slice_cmp}
 use Rattle.std.specs.FinMap as map
@@ -44,6 +45,10 @@ HasBytes told name bytes = IsSome told → contents told name ≡ Some bytes
 -- where the files tell, this one is there, and this holds of its bytes
 abbrev pub OfFile : Option FileMap → List ℕ → (List ℕ → Type 0) → Type 0
 OfFile told name P = IsSome told → IsSomeAnd (contents told name) P
+
+-- this holds of the bytes of a file, where the files tell and it is there
+abbrev pub ForFile : Option FileMap → List ℕ → (List ℕ → Type 0) → Type 0
+ForFile told name P = ForSome (contents told name) P
 
 -- where the files tell, this one has more bytes than that
 abbrev pub IsLonger : Option FileMap → List ℕ → ℕ → Type 0

@@ -4,7 +4,7 @@ ghost use Rattle.pth_outside.specs.Files.{FilesState, ReadsFiles, LeavesFiles};
 ghost use Rattle.pth_outside.specs.Files.{IsThere, contents, IsRead, created, appended, published, removed, AppendsFront};
 ghost use Rattle.pth_outside.specs.declared.files.FileErr.TheVariants.{NoMemory};
 
-use std::alloc::AllocError;
+use std::alloc::{AllocError, AllocFailed};
 
 /// Why a call on files gave up.
 #[derive(Clone, Copy, Debug, PartialEq, Eq)]
@@ -22,9 +22,17 @@ impl From<AllocError> for FileErr {
     }
 }
 
+impl<T: Drop> From<AllocFailed<T>> for FileErr {
+    ghost from_gives = { λ _ e. e ≡ NoMemory };
+
+    fn from(_: AllocFailed<T>) -> Self {
+        FileErr::NoMemory
+    }
+}
+
 /// Files by name. An implementation over a real disk tells nothing of their content.
 pub trait Files {
-    /// The files that are there, how many calls have failed, and whether a missing file is the only cause of a failure.
+    /// The files that are there, how many calls have failed, and whether only a missing file makes one fail.
     ghost state: { Self → FilesState };
 
     /// Reads from a place on, into the front of a buffer, and gives the count of bytes.

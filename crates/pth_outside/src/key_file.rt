@@ -2,6 +2,7 @@
 ghost use Rattle.std.specs.Prelude.{◌≡◌, ◌≤◌, ℕ, Some, None, length, take, IfOk, IsErrOf};
 ghost use Rattle.pth_outside.specs.Files.{ReadsFiles, OfFile, contents};
 ghost use Rattle.pth_outside.specs.Keys.{keys_of, first_too_long, AreTooMany};
+ghost use Rattle.pth_outside.specs.declared.key_file.KeysErr.TheVariants.{NoMemory as OutOfMemory};
 
 use crate::{Files, KeyList, Line, LineErr, LineReader, NoMemory};
 use std::alloc::Global;
@@ -16,6 +17,14 @@ pub enum KeysErr {
     /// The file has more lines than the caller takes.
     TooMany,
     NoMemory,
+}
+
+impl From<NoMemory> for KeysErr {
+    ghost from_gives = { λ _ e. e ≡ OutOfMemory };
+
+    fn from(_: NoMemory) -> Self {
+        KeysErr::NoMemory
+    }
 }
 
 /// The keys of a file that has at most `most` lines.
@@ -38,10 +47,7 @@ pub fn read_keys<F: Files>(
     ensures leaves { ReadsFiles (F.state files.old) (F.state files.new)
         (IsErrOf result KeysErr.Fault) (contents (F.state files.old).told name.now ≡ None) }
 {
-    let mut reader = match LineReader::new(alloc, name) {
-        Ok(reader) => reader,
-        Err(NoMemory) => return Err(KeysErr::NoMemory),
-    };
+    let mut reader = LineReader::new(alloc, name)?;
     let mut keys = KeyList::new(alloc);
     let mut line = Vec::new(alloc);
     loop {
@@ -52,9 +58,7 @@ pub fn read_keys<F: Files>(
                 if full {
                     return Err(KeysErr::TooMany);
                 }
-                if let Err(NoMemory) = keys.push(line.as_slice()) {
-                    return Err(KeysErr::NoMemory);
-                }
+                keys.push(line.as_slice())?;
             }
             Err(LineErr::TooLong { line }) => {
                 if full {

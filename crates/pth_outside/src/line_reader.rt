@@ -1,14 +1,14 @@
 // The lines of a file, one after another.
 ghost use Rattle.std.specs.Prelude.{◌≡◌, ◌↔◌, ◌+◌, ◌-◌, ◌<◌, ◌≤◌, ◌^◌, ◌++◌, ℕ, List, [], ◌∷◌, Ok, Err, None, length, take, drop, IfOk, IfSome, IfNone, OnOk, OnErr, IsErrOf, vec_len};
-ghost use Rattle.std.specs.Option.{ForSome};
-ghost use Rattle.pth_outside.specs.Files.{ReadsFiles, contents, IsThere};
+ghost use Rattle.pth_outside.specs.Files.{ReadsFiles, ForFile, contents, IsThere};
 ghost use Rattle.pth_outside.specs.Keys.{keys_of, HasNoFeed};
 ghost use Rattle.pth_outside.specs.Reading.{IsInStep, lines_left, advanced, IsAt, HasLongFirst, IsStuck, IsFirstFeed, IsNextLine, IsTooLong};
+ghost use Rattle.pth_outside.specs.declared.line_reader.LineErr.TheVariants.{NoMemory as OutOfMemory};
 
 use crate::whole::zeros;
 use crate::{FileErr, Files, LINE_FEED, LONGEST_KEY, NoMemory};
 use memchr::memchr;
-use std::alloc::{AllocError, Global};
+use std::alloc::{AllocError, AllocFailed, Global};
 use std::marker::Model;
 
 // The longest key with its line feed.
@@ -59,6 +59,22 @@ pub enum LineErr {
     NoMemory,
 }
 
+impl From<AllocError> for LineErr {
+    ghost from_gives = { λ _ e. e ≡ OutOfMemory };
+
+    fn from(_: AllocError) -> Self {
+        LineErr::NoMemory
+    }
+}
+
+impl<T: Drop> From<AllocFailed<T>> for LineErr {
+    ghost from_gives = { λ _ e. e ≡ OutOfMemory };
+
+    fn from(_: AllocFailed<T>) -> Self {
+        LineErr::NoMemory
+    }
+}
+
 // The bytes of a line, and those that it takes of the file with its feed.
 #[derive(Clone, Copy)]
 struct Span {
@@ -77,11 +93,11 @@ fn read_behind<F: Files>(
     requires { end ≤ length buffer.old }
     ensures bound { IfOk result (λ count. end + count ≤ length buffer.old) }
     ensures front { take end buffer.new ≡ take end buffer.old }
-    ensures read { IfOk result (λ count. ForSome (contents (F.state files.old).told name.now) (λ bytes.
+    ensures read { IfOk result (λ count. ForFile (F.state files.old).told name.now (λ bytes.
         take (end + count) buffer.new ≡ take end buffer.old ++ take count (drop at bytes))) }
-    ensures nothing { IfOk result (λ count. ForSome (contents (F.state files.old).told name.now) (λ bytes.
+    ensures nothing { IfOk result (λ count. ForFile (F.state files.old).told name.now (λ bytes.
         count ≡ 0 → end < length buffer.old → length bytes ≤ at)) }
-    ensures within { IfOk result (λ count. ForSome (contents (F.state files.old).told name.now) (λ bytes.
+    ensures within { IfOk result (λ count. ForFile (F.state files.old).told name.now (λ bytes.
         count ≤ length bytes - at)) }
 
     ensures there { OnOk result (IsThere (F.state files.old).told name.now) }
@@ -162,19 +178,20 @@ impl LineReader {
         ensures err { OnErr result (self.new.ahead ≡ self.old.ahead) }
         ensures none { result ≡ Ok 0 → self.new.ahead ≡ self.old.ahead }
         ensures read { IfOk result (λ count.
-            ForSome (contents (F.state files.old).told self.old.name) (λ bytes.
+            ForFile (F.state files.old).told self.old.name (λ bytes.
             let at = self.old.place + length self.old.ahead in
             self.new.ahead ≡ self.old.ahead ++ take count (drop at bytes))) }
         ensures nothing { result ≡ Ok 0 →
-            ForSome (contents (F.state files.old).told self.old.name) (λ bytes.
+            ForFile (F.state files.old).told self.old.name (λ bytes.
             length bytes ≤ self.old.place + length self.old.ahead) }
         ensures within { IfOk result (λ count.
-            ForSome (contents (F.state files.old).told self.old.name) (λ bytes.
+            ForFile (F.state files.old).told self.old.name (λ bytes.
             count ≤ length bytes - (self.old.place + length self.old.ahead))) }
 
         ensures there { OnOk result (IsThere (F.state files.old).told self.old.name) }
         ensures leaves { ReadsFiles (F.state files.old) (F.state files.new)
-            (IsErrOf result FileErr.Failed) (contents (F.state files.old).told self.old.name ≡ None) }
+            (IsErrOf result FileErr.Failed)
+            (contents (F.state files.old).told self.old.name ≡ None) }
     {
         self.buffer.rotate_left(self.start);
         self.end -= self.start;
@@ -200,7 +217,7 @@ impl LineReader {
         ensures line { IfOk result (λ found. IfSome found (λ span.
             IsNextLine self.new (F.state files.old).told span.len span.whole)) }
         ensures end { result ≡ Ok None → IsInStep self.old (F.state files.old).told →
-            ForSome (contents (F.state files.old).told self.old.name) (λ bytes.
+            ForFile (F.state files.old).told self.old.name (λ bytes.
             lines_left self.old bytes ≡ []) }
         ensures too_long { (line : ℕ) → IsErrOf result (LineErr.TooLong line) →
             IsTooLong self.old self.new (F.state files.old).told line }
@@ -210,7 +227,8 @@ impl LineReader {
         ensures there { OnOk result (self.old.ahead ≡ [] →
             IsThere (F.state files.old).told self.old.name) }
         ensures leaves { ReadsFiles (F.state files.old) (F.state files.new)
-            (IsErrOf result LineErr.Fault) (contents (F.state files.old).told self.old.name ≡ None) }
+            (IsErrOf result LineErr.Fault)
+            (contents (F.state files.old).told self.old.name ≡ None) }
     {
         loop {
             if let Some(len) = self.feed() {
@@ -247,10 +265,10 @@ impl LineReader {
     ) -> Result<Line, LineErr>
         requires { self.old.lines < 2 ^ 40 }
         ensures got { result ≡ Ok Line.Got → IsInStep self.old (F.state files.old).told →
-            ForSome (contents (F.state files.old).told self.old.name) (λ bytes.
+            ForFile (F.state files.old).told self.old.name (λ bytes.
             lines_left self.old bytes ≡ into.new.items ∷ lines_left self.new bytes) }
         ensures end { result ≡ Ok Line.End → IsInStep self.old (F.state files.old).told →
-            ForSome (contents (F.state files.old).told self.old.name) (λ bytes.
+            ForFile (F.state files.old).told self.old.name (λ bytes.
             lines_left self.old bytes ≡ []) }
         ensures short { OnOk result (vec_len into.new ≤ LONGEST_KEY) }
         ensures too_long { (line : ℕ) → IsErrOf result (LineErr.TooLong line) →
@@ -271,14 +289,15 @@ impl LineReader {
         ensures there { OnOk result (self.old.ahead ≡ [] →
             IsThere (F.state files.old).told self.old.name) }
         ensures leaves { ReadsFiles (F.state files.old) (F.state files.new)
-            (IsErrOf result LineErr.Fault) (contents (F.state files.old).told self.old.name ≡ None) }
+            (IsErrOf result LineErr.Fault)
+            (contents (F.state files.old).told self.old.name ≡ None) }
     {
         into.clear();
         match self.find_line(files)? {
-            Some(span) => match self.give(span, into) {
-                Ok(()) => Ok(Line::Got),
-                Err(_) => Err(LineErr::NoMemory),
-            },
+            Some(span) => {
+                self.give(span, into)?;
+                Ok(Line::Got)
+            }
             None => Ok(Line::End),
         }
     }

@@ -3,7 +3,7 @@ ghost use Rattle.std.specs.Prelude.{◌≡◌, OnOk, IsErrOf};
 ghost use Rattle.pth_outside.specs.Sink.{SinkState, LeavesSink, written, WritesFront};
 ghost use Rattle.pth_outside.specs.declared.sink.SinkErr.TheVariants.{NoMemory};
 
-use std::alloc::AllocError;
+use std::alloc::{AllocError, AllocFailed};
 
 /// Why a write gave up.
 #[derive(Clone, Copy, Debug, PartialEq, Eq)]
@@ -17,6 +17,14 @@ impl From<AllocError> for SinkErr {
     ghost from_gives = { λ _ e. e ≡ NoMemory };
 
     fn from(_: AllocError) -> Self {
+        SinkErr::NoMemory
+    }
+}
+
+impl<T: Drop> From<AllocFailed<T>> for SinkErr {
+    ghost from_gives = { λ _ e. e ≡ NoMemory };
+
+    fn from(_: AllocFailed<T>) -> Self {
         SinkErr::NoMemory
     }
 }

@@ -4,7 +4,7 @@ ghost use Rattle.pth_outside.specs.Files.{ReadsFiles, HasBytes, IsLonger, conten
 ghost use Rattle.pth_outside.specs.declared.whole.WholeErr.TheVariants.{NoMemory as OutOfMemory};
 
 use crate::{FileErr, Files};
-use std::alloc::{AllocError, Global};
+use std::alloc::{AllocError, AllocFailed, Global};
 
 // How many bytes are asked for at a time.
 const PIECE: usize = 65536;
@@ -23,6 +23,14 @@ impl From<AllocError> for WholeErr {
     ghost from_gives = { λ _ e. e ≡ OutOfMemory };
 
     fn from(_: AllocError) -> Self {
+        WholeErr::NoMemory
+    }
+}
+
+impl<T: Drop> From<AllocFailed<T>> for WholeErr {
+    ghost from_gives = { λ _ e. e ≡ OutOfMemory };
+
+    fn from(_: AllocFailed<T>) -> Self {
         WholeErr::NoMemory
     }
 }

@@ -23,7 +23,8 @@ pub returns-then-count-eq0-clause-line : goal.returns-then-count-eq0-clause-line
 returns-then-count-eq0-clause-line g c =
     let on = c.loop-len.invariant in
     let short : c.ahead_len-len.result ≤ LONGEST_KEY = omega (arith, c.ahead_len-len.ensures.len, c.ahead_len-len.ensures.bound) in
-    last_line c.loop-len.self c.read_ahead.new.self (g.F.Files.state c.args.files.now).told (g.F.Files.state c.loop-len.files).told c.ahead_len-len.result on.kept.told c.in-Ok.ensures.at
+    last_line c.loop-len.self c.read_ahead.new.self
+    (g.F.Files.state c.args.files.now).told (g.F.Files.state c.loop-len.files).told c.ahead_len-len.result on.kept.told c.in-Ok.ensures.at
     (c.in-Ok.ensures.none (ap Ok c.if-count-eq0.true)) c.ahead_len-len.ensures.len c.if-len-eq0.false short c.in_default.ensures.none
     (c.in-Ok.ensures.nothing (ap Ok c.if-count-eq0.true))
 
