@@ -19,6 +19,10 @@ IsInStep r told = ForFile told r.name (λ bytes. r.ahead ≡ take (length r.ahea
 abbrev pub lines_left : Reader → List ℕ → List (List ℕ)
 lines_left r bytes = keys_of (drop r.place bytes)
 
+-- the lines that the reader has not given are these, where it is in step with a file that is told
+abbrev pub HasLeft : Reader → Option FileMap → (List ℕ → List (List ℕ)) → Type 0
+HasLeft r told lines = IsInStep r told → ForFile told r.name (λ bytes. lines_left r bytes ≡ lines bytes)
+
 -- after a line that takes this many bytes of the file
 abbrev pub advanced : ℕ → Reader → Reader
 advanced count r = record r { place = r.place + count; ahead = drop count r.ahead; lines = r.lines + 1 }

@@ -97,6 +97,31 @@ mod tests {
         Ok(())
     }
 
+    // Seven reads take the file.
+    #[test]
+    fn each_failing_read_is_a_fault(rt: HostRuntime) -> Result<(), Fail> {
+        let alloc = rt.alloc();
+        for number in 0..8u64 {
+            let mut files = MemFiles::new(alloc, vec![in alloc; number]?, 2);
+            files.put("f", b"ab\n\ncde\nf").ok().ok_or("memory")?;
+            match read_keys(alloc, &mut files, "f", 4) {
+                Ok(keys) => {
+                    assert_eq!(rt; number, 7);
+                    assert_eq!(rt; keys.len(), 4);
+                    for (i, want) in [b"ab".as_slice(), b"", b"cde", b"f"].iter().enumerate() {
+                        assert!(rt; (i as u64) < keys.len());
+                        assert_eq!(rt; keys.key(i as u64), *want);
+                    }
+                }
+                Err(err) => {
+                    assert!(rt; number < 7, "call {number}");
+                    assert_eq!(rt; err, KeysErr::Fault, "call {number}");
+                }
+            }
+        }
+        Ok(())
+    }
+
     #[test]
     fn a_key_has_at_most_65535_bytes(rt: HostRuntime) -> Result<(), Fail> {
         let alloc = rt.alloc();

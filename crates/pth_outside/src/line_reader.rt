@@ -2,7 +2,7 @@
 ghost use Rattle.std.specs.Prelude.{◌≡◌, ◌↔◌, ◌+◌, ◌-◌, ◌<◌, ◌≤◌, ◌^◌, ◌++◌, ℕ, List, [], ◌∷◌, Ok, Err, None, length, take, drop, IfOk, IfSome, IfNone, OnOk, OnErr, IsErrOf, vec_len};
 ghost use Rattle.pth_outside.specs.Files.{ReadsFiles, ForFile, contents, IsThere};
 ghost use Rattle.pth_outside.specs.Keys.{keys_of, HasNoFeed};
-ghost use Rattle.pth_outside.specs.Reading.{IsInStep, lines_left, advanced, IsAt, HasLongFirst, IsStuck, IsFirstFeed, IsNextLine, IsTooLong};
+ghost use Rattle.pth_outside.specs.Reading.{IsInStep, HasLeft, lines_left, advanced, IsAt, HasLongFirst, IsStuck, IsFirstFeed, IsNextLine, IsTooLong};
 ghost use Rattle.pth_outside.specs.declared.line_reader.LineErr.TheVariants.{NoMemory as OutOfMemory};
 
 use crate::whole::zeros;
@@ -216,9 +216,8 @@ impl LineReader {
             IsInStep self.new (F.state files.old).told }
         ensures line { IfOk result (λ found. IfSome found (λ span.
             IsNextLine self.new (F.state files.old).told span.len span.whole)) }
-        ensures end { result ≡ Ok None → IsInStep self.old (F.state files.old).told →
-            ForFile (F.state files.old).told self.old.name (λ bytes.
-            lines_left self.old bytes ≡ []) }
+        ensures end { result ≡ Ok None →
+            HasLeft self.old (F.state files.old).told (λ _. []) }
         ensures too_long { (line : ℕ) → IsErrOf result (LineErr.TooLong line) →
             IsTooLong self.old self.new (F.state files.old).told line }
         ensures again { IsStuck self.old.ahead →
@@ -264,12 +263,10 @@ impl LineReader {
         into: &mut Vec<u8>,
     ) -> Result<Line, LineErr>
         requires { self.old.lines < 2 ^ 40 }
-        ensures got { result ≡ Ok Line.Got → IsInStep self.old (F.state files.old).told →
-            ForFile (F.state files.old).told self.old.name (λ bytes.
-            lines_left self.old bytes ≡ into.new.items ∷ lines_left self.new bytes) }
-        ensures end { result ≡ Ok Line.End → IsInStep self.old (F.state files.old).told →
-            ForFile (F.state files.old).told self.old.name (λ bytes.
-            lines_left self.old bytes ≡ []) }
+        ensures got { result ≡ Ok Line.Got → HasLeft self.old (F.state files.old).told (λ bytes.
+            into.new.items ∷ lines_left self.new bytes) }
+        ensures end { result ≡ Ok Line.End →
+            HasLeft self.old (F.state files.old).told (λ _. []) }
         ensures short { OnOk result (vec_len into.new ≤ LONGEST_KEY) }
         ensures too_long { (line : ℕ) → IsErrOf result (LineErr.TooLong line) →
             IsTooLong self.old self.new (F.state files.old).told line }

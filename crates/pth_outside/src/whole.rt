@@ -106,6 +106,30 @@ mod tests {
         Ok(())
     }
 
+    #[test]
+    fn a_file_of_many_pieces_is_read_whole(rt: HostRuntime) -> Result<(), Fail> {
+        let alloc = rt.alloc();
+        let mut text = Vec::new(alloc);
+        for i in 0..150_000u32 {
+            text.push((i % 251) as u8)?;
+        }
+        for (most, read) in [(150_000, true), (149_999, false)] {
+            let mut files = MemFiles::new(alloc, Vec::new(alloc), 100_000);
+            files.put("f", &text).ok().ok_or("memory")?;
+            match read_whole(alloc, &mut files, "f", most) {
+                Ok(bytes) => {
+                    assert!(rt; read, "most {most}");
+                    assert!(rt; bytes == text, "most {most}");
+                }
+                Err(err) => {
+                    assert!(rt; !read, "most {most}");
+                    assert_eq!(rt; err, WholeErr::TooLarge);
+                }
+            }
+        }
+        Ok(())
+    }
+
     // Three reads take the file, and the fourth would be one too many to fail.
     #[test]
     fn each_failing_read_is_a_fault(rt: HostRuntime) -> Result<(), Fail> {
