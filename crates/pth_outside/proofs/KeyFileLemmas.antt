@@ -1,5 +1,7 @@
 -- The keys of a file, read line by line.
-use Rattle.std.proofs.Common.{◌≡◌, ◌≤◌, ◌<◌, ◌+◌, ℕ, zero, suc, Bool, false, cond, List, [], ◌∷◌, ◌++◌, Option, Some, None, IsSome, length, take, refl, sym, ap, subst, ◌∙◌, ◌⊎◌, ⊎_elim, inl, inr, drop, arith, length-append, append_assoc}
+use Rattle.std.proofs.Common.{◌≡◌, ◌≤◌, ◌<◌, ◌+◌, ℕ, zero, suc, Bool, false, cond, List, [], ◌∷◌, ◌++◌, Option, Some}
+use Rattle.std.proofs.Common.{None, IsSome, length, take, refl, sym, ap, subst, ◌∙◌, ◌⊎◌, ⊎_elim, inl, inr, drop}
+use Rattle.std.proofs.Common.{arith, length-append, append_assoc}
 use Rattle.std.specs.List.{position_from}
 use Rattle.std.specs.Option.{ForSome, IsSomeAnd}
 use Rattle.std.proofs.lemmas.Bool.{false_from_ne_true, false≢true}
@@ -15,15 +17,19 @@ pub AreShort : List (List ℕ) → Type 0
 AreShort [] = Unit {0}
 AreShort (key ∷ keys) = (length key ≤ LONGEST_KEY) × AreShort keys
 
+-- no key
 pub AreShort-none : AreShort []
 unfolding AreShort
 AreShort-none = tt
 
-pub AreShort-push : (keys : List (List ℕ)) (key : List ℕ) → AreShort keys → length key ≤ LONGEST_KEY → AreShort (keys ++ key ∷ [])
+-- one key more
+pub AreShort-push : (keys : List (List ℕ)) (key : List ℕ) → AreShort keys → length key ≤ LONGEST_KEY →
+    AreShort (keys ++ key ∷ [])
 unfolding AreShort
 AreShort-push [] key short fits = (fits, tt)
 AreShort-push (k ∷ keys) key short fits = (short.0, AreShort-push keys key short.1 fits)
 
+-- a short key doesn't pass the test
 short_test : (key : List ℕ) → length key ≤ LONGEST_KEY → is_too_long key ≡ false
 short_test key fits = false_from_ne_true _ (λ is. let long : LONGEST_KEY < length key = (Decides-ltb LONGEST_KEY (length key)).0 is in omega arith)
 
@@ -34,7 +40,8 @@ no_long i [] short = refl
 no_long i (k ∷ keys) short = ap (λ (b : Bool). cond b (Some i) (position_from is_too_long (i + 1) keys)) (short_test k short.0) ∙ no_long (i + 1) keys short.1
 
 -- behind short keys the first that is too long
-first_long : (i : ℕ) (keys left : List (List ℕ)) (most : ℕ) → AreShort keys → HasLongFirst left → length keys < most → position_from is_too_long i (take most (keys ++ left)) ≡ Some (i + length keys)
+first_long : (i : ℕ) (keys left : List (List ℕ)) (most : ℕ) → AreShort keys → HasLongFirst left → length keys < most →
+    position_from is_too_long i (take most (keys ++ left)) ≡ Some (i + length keys)
 unfolding AreShort
 first_long i keys left zero short long room = absurd (omega arith)
 first_long i [] [] (suc most) short long room = absurd long
@@ -46,12 +53,14 @@ first_long i (k ∷ keys) left (suc most) short long room =
     ap (λ (b : Bool). cond b (Some i) (position_from is_too_long (i + 1) (take most (keys ++ left)))) (short_test k short.0)
     ∙ first_long (i + 1) keys left most short.1 long (omega arith) ∙ ap Some same
 
+-- what holds of the value holds of the one that is there
 at_some : (o : Option (List ℕ)) (P : List ℕ → Type 0) → IsSome o → ForSome o P → IsSomeAnd o P
 at_some None P there holds = false≢true there
 at_some (Some x) P there holds = holds x refl
 
 -- what is so of the bytes of a file that is there
-pub of_file : (told : Option FileMap) (name : List ℕ) (P : List ℕ → Type 0) → IsThere told name → ForSome (contents told name) P → OfFile told name P
+pub of_file : (told : Option FileMap) (name : List ℕ) (P : List ℕ → Type 0) → IsThere told name →
+    ForSome (contents told name) P → OfFile told name P
 of_file told name P there holds tells = at_some (contents told name) P (there tells) holds
 
 -- the keys so far and the lines that are left are those of the file
@@ -64,19 +73,25 @@ pub record KeysSoFar (name : List ℕ) (told : Option FileMap) (r : Reader) (key
   pub there : (r.ahead ≡ []) ⊎ IsThere told name
 
 -- the line that is too long
-pub names_long : (name : List ℕ) (told : Option FileMap) (r : Reader) (keys : List (List ℕ)) (most line : ℕ) → KeysSoFar name told r keys → length keys < most → line ≡ r.lines + 1
-    → ForSome (contents told name) (λ bytes. HasLongFirst (lines_left r bytes)) → ForSome (contents told name) (λ bytes. first_too_long (take most (keys_of bytes)) ≡ Some line)
+pub names_long : (name : List ℕ) (told : Option FileMap) (r : Reader) (keys : List (List ℕ)) (most line : ℕ) →
+    KeysSoFar name told r keys → length keys < most → line ≡ r.lines + 1 →
+    ForSome (contents told name) (λ bytes. HasLongFirst (lines_left r bytes)) →
+    ForSome (contents told name) (λ bytes. first_too_long (take most (keys_of bytes)) ≡ Some line)
 names_long name told r keys most line so_far room number long bytes is =
     let same : 1 + length keys ≡ line = omega (arith, so_far.counted) in
     ap (λ (lines : List (List ℕ)). first_too_long (take most lines)) (so_far.all bytes is)
     ∙ first_long 1 keys (lines_left r bytes) most so_far.short (long bytes is) room ∙ ap Some same
 
+-- a line that is too long is a line
 some_left : (lines : List (List ℕ)) → HasLongFirst lines → 0 < length lines
 some_left [] long = absurd long
 some_left (l ∷ lines) long = omega arith
 
-too_many : (name : List ℕ) (told : Option FileMap) (r : Reader) (keys : List (List ℕ)) (most : ℕ) → KeysSoFar name told r keys → length keys ≡ most
-    → ForSome (contents told name) (λ bytes. 0 < length (lines_left r bytes)) → ForSome (contents told name) (λ bytes. AreTooMany most (keys_of bytes))
+-- too many, where lines are left behind as many keys as may be
+too_many : (name : List ℕ) (told : Option FileMap) (r : Reader) (keys : List (List ℕ)) (most : ℕ) →
+    KeysSoFar name told r keys → length keys ≡ most →
+    ForSome (contents told name) (λ bytes. 0 < length (lines_left r bytes)) →
+    ForSome (contents told name) (λ bytes. AreTooMany most (keys_of bytes))
 too_many name told r keys most so_far full more bytes is =
     let left : 0 < length (lines_left r bytes) = more bytes is in
     subst (AreTooMany most) (sym (so_far.all bytes is)) (record {
@@ -85,18 +100,24 @@ too_many name told r keys most so_far full more bytes is =
     })
 
 -- too many, where the next line is too long
-pub many_long : (name : List ℕ) (told : Option FileMap) (r : Reader) (keys : List (List ℕ)) (most : ℕ) → KeysSoFar name told r keys → length keys ≡ most
-    → ForSome (contents told name) (λ bytes. HasLongFirst (lines_left r bytes)) → ForSome (contents told name) (λ bytes. AreTooMany most (keys_of bytes))
+pub many_long : (name : List ℕ) (told : Option FileMap) (r : Reader) (keys : List (List ℕ)) (most : ℕ) →
+    KeysSoFar name told r keys → length keys ≡ most →
+    ForSome (contents told name) (λ bytes. HasLongFirst (lines_left r bytes)) →
+    ForSome (contents told name) (λ bytes. AreTooMany most (keys_of bytes))
 many_long name told r keys most so_far full long = too_many name told r keys most so_far full (λ bytes is. some_left (lines_left r bytes) (long bytes is))
 
 -- too many, where there is a line more
-pub many_got : (name : List ℕ) (told : Option FileMap) (r : Reader) (keys : List (List ℕ)) (most : ℕ) (line : List ℕ) (after : List ℕ → List (List ℕ)) → KeysSoFar name told r keys → length keys ≡ most
-    → ForSome (contents told name) (λ bytes. lines_left r bytes ≡ line ∷ after bytes) → ForSome (contents told name) (λ bytes. AreTooMany most (keys_of bytes))
+pub many_got : (name : List ℕ) (told : Option FileMap) (r : Reader) (keys : List (List ℕ)) (most : ℕ)
+    (line : List ℕ) (after : List ℕ → List (List ℕ)) →
+    KeysSoFar name told r keys → length keys ≡ most →
+    ForSome (contents told name) (λ bytes. lines_left r bytes ≡ line ∷ after bytes) →
+    ForSome (contents told name) (λ bytes. AreTooMany most (keys_of bytes))
 many_got name told r keys most line after so_far full got =
     too_many name told r keys most so_far full (λ bytes is. omega (arith, ap length (got bytes is)))
 
 -- before any line is read
-pub so_far_new : (name : List ℕ) (told : Option FileMap) (r : Reader) (keys : List (List ℕ)) → r.name ≡ name → r.place ≡ 0 → r.ahead ≡ [] → r.lines ≡ 0 → keys ≡ [] → KeysSoFar name told r keys
+pub so_far_new : (name : List ℕ) (told : Option FileMap) (r : Reader) (keys : List (List ℕ)) → r.name ≡ name →
+    r.place ≡ 0 → r.ahead ≡ [] → r.lines ≡ 0 → keys ≡ [] → KeysSoFar name told r keys
 so_far_new name told r keys named place ahead lines none = record {
   named = named;
   counted = lines ∙ sym (ap length none);
@@ -107,16 +128,20 @@ so_far_new name told r keys named place ahead lines none = record {
 }
 
 -- the file is there once it was read
-there_now : (name : List ℕ) (told told' : Option FileMap) (r : Reader) (keys : List (List ℕ)) → KeysSoFar name told r keys → told' ≡ told → (r.ahead ≡ [] → IsThere told' r.name) → IsThere told name
+there_now : (name : List ℕ) (told told' : Option FileMap) (r : Reader) (keys : List (List ℕ)) →
+    KeysSoFar name told r keys → told' ≡ told → (r.ahead ≡ [] → IsThere told' r.name) → IsThere told name
 there_now name told told' r keys so_far same there =
     let P : Option FileMap → Type 0 = λ t. IsThere t r.name in
     let Q : List ℕ → Type 0 = λ n. IsThere told n in
     ⊎_elim (λ empty. subst Q so_far.named (subst P same (there empty))) (λ t. t) so_far.there
 
 -- one line more
-pub so_far_more : (name line : List ℕ) (told told' : Option FileMap) (r r' : Reader) (keys keys' : List (List ℕ)) → KeysSoFar name told r keys → told' ≡ told → r'.name ≡ r.name → r'.lines ≡ r.lines + 1
-    → (IsInStep r told' → IsInStep r' told') → (IsInStep r told' → ForSome (contents told' r.name) (λ bytes. lines_left r bytes ≡ line ∷ lines_left r' bytes)) → length line ≤ LONGEST_KEY
-    → keys' ≡ keys ++ line ∷ [] → (r.ahead ≡ [] → IsThere told' r.name) → KeysSoFar name told r' keys'
+pub so_far_more : (name line : List ℕ) (told told' : Option FileMap) (r r' : Reader) (keys keys' : List (List ℕ)) →
+    KeysSoFar name told r keys → told' ≡ told → r'.name ≡ r.name → r'.lines ≡ r.lines + 1 →
+    (IsInStep r told' → IsInStep r' told') →
+    (IsInStep r told' → ForSome (contents told' r.name) (λ bytes. lines_left r bytes ≡ line ∷ lines_left r' bytes)) →
+    length line ≤ LONGEST_KEY → keys' ≡ keys ++ line ∷ [] → (r.ahead ≡ [] → IsThere told' r.name) →
+    KeysSoFar name told r' keys'
 so_far_more name line told told' r r' keys keys' so_far same named counted step got fits pushed there =
     let S : Option FileMap → Type 0 = λ t. IsInStep r t → IsInStep r' t in
     let G : Option FileMap → Type 0 = λ t. IsInStep r t → ForSome (contents t r.name) (λ bytes. lines_left r bytes ≡ line ∷ lines_left r' bytes) in
@@ -132,28 +157,36 @@ so_far_more name line told told' r r' keys keys' so_far same named counted step 
     }
 
 -- where the next line is too long
-long_here : (name : List ℕ) (told told' : Option FileMap) (r r' : Reader) (keys : List (List ℕ)) (line : ℕ) → KeysSoFar name told r keys → told' ≡ told → IsTooLong r r' told' line
-    → ForSome (contents told name) (λ bytes. HasLongFirst (lines_left r bytes))
+long_here : (name : List ℕ) (told told' : Option FileMap) (r r' : Reader) (keys : List (List ℕ)) (line : ℕ) →
+    KeysSoFar name told r keys → told' ≡ told → IsTooLong r r' told' line →
+    ForSome (contents told name) (λ bytes. HasLongFirst (lines_left r bytes))
 long_here name told told' r r' keys line so_far same too bytes is =
     let L : Option FileMap → Type 0 = λ t. IsInStep r t → ForSome (contents t r.name) (λ b. HasLongFirst (lines_left r b)) in
     subst L same too.long so_far.step bytes (ap (contents told) so_far.named ∙ is)
 
-pub names_line : (name : List ℕ) (told told' : Option FileMap) (r r' : Reader) (keys : List (List ℕ)) (most line : ℕ) → KeysSoFar name told r keys → told' ≡ told → length keys < most → IsTooLong r r' told' line
-    → OfFile told name (λ bytes. first_too_long (take most (keys_of bytes)) ≡ Some line)
+-- the number of the line that is too long, after reading on
+pub names_line : (name : List ℕ) (told told' : Option FileMap) (r r' : Reader) (keys : List (List ℕ)) (most line : ℕ) →
+    KeysSoFar name told r keys → told' ≡ told → length keys < most → IsTooLong r r' told' line →
+    OfFile told name (λ bytes. first_too_long (take most (keys_of bytes)) ≡ Some line)
 names_line name told told' r r' keys most line so_far same room too =
     of_file told name (λ bytes. first_too_long (take most (keys_of bytes)) ≡ Some line) (there_now name told told' r keys so_far same too.there)
     (names_long name told r keys most line so_far room too.number (long_here name told told' r r' keys line so_far same too))
 
-pub many_by_long : (name : List ℕ) (told told' : Option FileMap) (r r' : Reader) (keys : List (List ℕ)) (most line : ℕ) → KeysSoFar name told r keys → told' ≡ told → length keys ≡ most → IsTooLong r r' told' line
-    → OfFile told name (λ bytes. AreTooMany most (keys_of bytes))
+-- too many, after a line that is too long was read
+pub many_by_long : (name : List ℕ) (told told' : Option FileMap) (r r' : Reader) (keys : List (List ℕ)) (most line : ℕ) →
+    KeysSoFar name told r keys → told' ≡ told → length keys ≡ most → IsTooLong r r' told' line →
+    OfFile told name (λ bytes. AreTooMany most (keys_of bytes))
 many_by_long name told told' r r' keys most line so_far same full too =
     of_file told name (λ bytes. AreTooMany most (keys_of bytes)) (there_now name told told' r keys so_far same too.there)
     (many_long name told r keys most so_far full (long_here name told told' r r' keys line so_far same too))
 
-pub many_by_line : (name line : List ℕ) (told told' : Option FileMap) (r r' : Reader) (keys : List (List ℕ)) (most : ℕ) → KeysSoFar name told r keys → told' ≡ told → length keys ≡ most
-    → (IsInStep r told' → ForSome (contents told' r.name) (λ bytes. lines_left r bytes ≡ line ∷ lines_left r' bytes)) → (r.ahead ≡ [] → IsThere told' r.name)
-    → OfFile told name (λ bytes. AreTooMany most (keys_of bytes))
+-- too many, after a line more was read
+pub many_by_line : (name line : List ℕ) (told told' : Option FileMap) (r r' : Reader) (keys : List (List ℕ)) (most : ℕ) →
+    KeysSoFar name told r keys → told' ≡ told → length keys ≡ most →
+    (IsInStep r told' → ForSome (contents told' r.name) (λ bytes. lines_left r bytes ≡ line ∷ lines_left r' bytes)) →
+    (r.ahead ≡ [] → IsThere told' r.name) → OfFile told name (λ bytes. AreTooMany most (keys_of bytes))
 many_by_line name line told told' r r' keys most so_far same full got there =
     let G : Option FileMap → Type 0 = λ t. IsInStep r t → ForSome (contents t r.name) (λ bytes. lines_left r bytes ≡ line ∷ lines_left r' bytes) in
     of_file told name (λ bytes. AreTooMany most (keys_of bytes)) (there_now name told told' r keys so_far same there)
-    (many_got name told r keys most line (λ bytes. lines_left r' bytes) so_far full (λ bytes is. subst G same got so_far.step bytes (ap (contents told) so_far.named ∙ is)))
+    (many_got name told r keys most line (λ bytes. lines_left r' bytes) so_far full
+    (λ bytes is. subst G same got so_far.step bytes (ap (contents told) so_far.named ∙ is)))

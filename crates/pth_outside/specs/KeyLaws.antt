@@ -8,19 +8,25 @@ use Rattle.std.proofs.lemmas.List.Splits.{slice_split_at, slice_split_none, leng
 use Rattle.pth_outside.specs.declared.TheConstants.{LINE_FEED}
 use Rattle.pth_outside.specs.Keys.{without_empty_last, keys_of, HasNoFeed}
 
+-- the test for a line feed
 abbrev is_feed : ℕ → Bool
 is_feed b = b == LINE_FEED
 
+-- no byte passes the test
 none_is_feed : (line : List ℕ) → HasNoFeed line → All (λ b. is_feed b ≡ false) line
 none_is_feed line none = All-from_get_or (λ b. is_feed b ≡ false) line 0 (λ k within. false_from_ne_true _ (none k (omega arith) within))
 
-onto_more : (piece : List ℕ) (more : List (List ℕ)) → 0 < length more → without_empty_last (piece ∷ more) ≡ piece ∷ without_empty_last more
+-- a piece before others stays
+onto_more : (piece : List ℕ) (more : List (List ℕ)) → 0 < length more →
+    without_empty_last (piece ∷ more) ≡ piece ∷ without_empty_last more
 onto_more piece [] some = absurd (omega arith)
 onto_more piece (next ∷ more) some = refl
 
+-- the test for 0 is false above it
 not_zero : (n : ℕ) → 0 < n → (n == 0) ≡ false
 not_zero n some = false_from_ne_true _ (λ is. let zero : n ≡ 0 = eqb-true n 0 is in omega arith)
 
+-- a lone piece that isn't empty stays
 lone : (piece : List ℕ) → 0 < length piece → without_empty_last (piece ∷ []) ≡ piece ∷ []
 lone piece some = ap (λ (empty : Bool). if empty then [] else piece ∷ []) (not_zero (length piece) some)
 

@@ -1,5 +1,6 @@
 -- The keys of a text.
-use Rattle.std.specs.Prelude.{◌≡◌, ◌==◌, ℕ, ◌<◌, ◌≤◌, Bool, true, nat_lt, List, [], ◌∷◌, length, take, slice_index, Option, None, if◌then◌else◌}
+use Rattle.std.specs.Prelude.{◌≡◌, ◌==◌, ℕ, ◌<◌, ◌≤◌, nat_lt, Bool, true, if◌then◌else◌}
+use Rattle.std.specs.Prelude.{List, [], ◌∷◌, length, take, slice_index, Option, None}
 use Rattle.std.specs.List.{slice_split, position_from}
 use Rattle.pth_outside.specs.declared.TheConstants.{LINE_FEED, LONGEST_KEY}
 

@@ -1,8 +1,7 @@
 -- A reader of the lines of a file: where it stands, and which line comes next.
 use Rattle.std.specs.Prelude.{◌≡◌, ℕ, ◌+◌, ◌<◌, ◌≤◌, List, [], ◌∷◌, length, take, drop, slice_index, Option}
-use Rattle.std.specs.Option.{ForSome}
 use Rattle.pth_outside.specs.declared.TheConstants.{LINE_FEED, LONGEST_KEY}
-use Rattle.pth_outside.specs.Files.{FileMap, contents, IsThere}
+use Rattle.pth_outside.specs.Files.{FileMap, ForFile, IsThere}
 use Rattle.pth_outside.specs.Keys.{keys_of, HasNoFeed}
 
 -- its file, its place there, the bytes read ahead from there, and how many lines it has given
@@ -14,11 +13,15 @@ pub record Reader : Type 0 where
 
 -- the bytes read ahead are those of the file at the reader's place
 abbrev pub IsInStep : Reader → Option FileMap → Type 0
-IsInStep r told = ForSome (contents told r.name) (λ bytes. r.ahead ≡ take (length r.ahead) (drop r.place bytes))
+IsInStep r told = ForFile told r.name (λ bytes. r.ahead ≡ take (length r.ahead) (drop r.place bytes))
 
 -- the lines of a text that the reader has not given
 abbrev pub lines_left : Reader → List ℕ → List (List ℕ)
 lines_left r bytes = keys_of (drop r.place bytes)
+
+-- the lines that the reader has not given are these, where it is in step with a file that is told
+abbrev pub HasLeft : Reader → Option FileMap → (List ℕ → List (List ℕ)) → Type 0
+HasLeft r told lines = IsInStep r told → ForFile told r.name (λ bytes. lines_left r bytes ≡ lines bytes)
 
 -- after a line that takes this many bytes of the file
 abbrev pub advanced : ℕ → Reader → Reader
@@ -51,12 +54,12 @@ pub record IsNextLine (r : Reader) (told : Option FileMap) (len whole : ℕ) : T
   pub within : whole ≤ length r.ahead
   pub begins : len ≤ whole
   pub short : len ≤ LONGEST_KEY
-  pub line : IsInStep r told → ForSome (contents told r.name) (λ bytes.
+  pub line : IsInStep r told → ForFile told r.name (λ bytes.
       lines_left r bytes ≡ take len r.ahead ∷ keys_of (drop (r.place + whole) bytes))
 
 -- the next line is the one with this number, and it is longer than a key may be; the reader stays, and it is stuck
 pub record IsTooLong (old new : Reader) (told : Option FileMap) (line : ℕ) : Type 0 where
   pub number : line ≡ old.lines + 1
   pub stuck : IsStuck new.ahead
-  pub long : IsInStep old told → ForSome (contents told old.name) (λ bytes. HasLongFirst (lines_left old bytes))
+  pub long : IsInStep old told → ForFile told old.name (λ bytes. HasLongFirst (lines_left old bytes))
   pub there : old.ahead ≡ [] → IsThere told old.name

@@ -1,7 +1,8 @@
 // Reads the keys of a file.
-ghost use Rattle.std.specs.Prelude.{◌≡◌, ◌≤◌, ℕ, Some, None, length, take, IfOk, IsErrOf, IsTrue};
-ghost use Rattle.pth_outside.specs.Files.{Rose, OfFile, contents};
+ghost use Rattle.std.specs.Prelude.{◌≡◌, ◌≤◌, ℕ, Some, None, length, take, IfOk, IsErrOf};
+ghost use Rattle.pth_outside.specs.Files.{ReadsFiles, OfFile, contents};
 ghost use Rattle.pth_outside.specs.Keys.{keys_of, first_too_long, AreTooMany};
+ghost use Rattle.pth_outside.specs.declared.key_file.KeysErr.TheVariants.{NoMemory as OutOfMemory};
 
 use crate::{Files, KeyList, Line, LineErr, LineReader, NoMemory};
 use std::alloc::Global;
@@ -18,6 +19,14 @@ pub enum KeysErr {
     NoMemory,
 }
 
+impl From<NoMemory> for KeysErr {
+    ghost from_gives = { λ _ e. e ≡ OutOfMemory };
+
+    fn from(_: NoMemory) -> Self {
+        KeysErr::NoMemory
+    }
+}
+
 /// The keys of a file that has at most `most` lines.
 pub fn read_keys<F: Files>(
     alloc: Global,
@@ -27,28 +36,18 @@ pub fn read_keys<F: Files>(
 ) -> Result<KeyList, KeysErr>
     requires { most ≤ 67108864 }
     ensures ok { IfOk result (λ keys.
-        OfFile (F.told files.old) name.now (λ bytes. keys ≡ keys_of bytes)) }
+        OfFile (F.state files.old).told name.now (λ bytes. keys ≡ keys_of bytes)) }
     ensures bound { IfOk result (λ keys. length keys ≤ most) }
     ensures short { IfOk result (λ keys. first_too_long keys ≡ None) }
     ensures too_long { (line : ℕ) → IsErrOf result (KeysErr.TooLong line) →
-        OfFile (F.told files.old) name.now (λ bytes.
+        OfFile (F.state files.old).told name.now (λ bytes.
         first_too_long (take most (keys_of bytes)) ≡ Some line) }
     ensures too_many { IsErrOf result KeysErr.TooMany →
-        OfFile (F.told files.old) name.now (λ bytes. AreTooMany most (keys_of bytes)) }
-    ensures fault { IsErrOf result KeysErr.Fault →
-        Rose (F.faults files.old) (F.faults files.new) }
-    ensures missing { IsErrOf result KeysErr.Fault → IsTrue (F.sure files.old) →
-        contents (F.told files.old) name.now ≡ None }
-
-    // No file changes, whatever the answer.
-    ensures told { F.told files.new ≡ F.told files.old }
-    ensures sure { F.sure files.new ≡ F.sure files.old }
-    ensures later { F.faults files.old ≤ F.faults files.new }
+        OfFile (F.state files.old).told name.now (λ bytes. AreTooMany most (keys_of bytes)) }
+    ensures leaves { ReadsFiles (F.state files.old) (F.state files.new)
+        (IsErrOf result KeysErr.Fault) (contents (F.state files.old).told name.now ≡ None) }
 {
-    let mut reader = match LineReader::new(alloc, name) {
-        Ok(reader) => reader,
-        Err(NoMemory) => return Err(KeysErr::NoMemory),
-    };
+    let mut reader = LineReader::new(alloc, name)?;
     let mut keys = KeyList::new(alloc);
     let mut line = Vec::new(alloc);
     loop {
@@ -59,9 +58,7 @@ pub fn read_keys<F: Files>(
                 if full {
                     return Err(KeysErr::TooMany);
                 }
-                if let Err(NoMemory) = keys.push(line.as_slice()) {
-                    return Err(KeysErr::NoMemory);
-                }
+                keys.push(line.as_slice())?;
             }
             Err(LineErr::TooLong { line }) => {
                 if full {
@@ -96,6 +93,31 @@ mod tests {
             files.put("f", text).ok().ok_or("memory")?;
             let read = read_keys(alloc, &mut files, "f", most);
             assert_eq!(rt; read.map(|keys| keys.len()), want, "{text:?}");
+        }
+        Ok(())
+    }
+
+    // Seven reads take the file.
+    #[test]
+    fn each_failing_read_is_a_fault(rt: HostRuntime) -> Result<(), Fail> {
+        let alloc = rt.alloc();
+        for number in 0..8u64 {
+            let mut files = MemFiles::new(alloc, vec![in alloc; number]?, 2);
+            files.put("f", b"ab\n\ncde\nf").ok().ok_or("memory")?;
+            match read_keys(alloc, &mut files, "f", 4) {
+                Ok(keys) => {
+                    assert_eq!(rt; number, 7);
+                    assert_eq!(rt; keys.len(), 4);
+                    for (i, want) in [b"ab".as_slice(), b"", b"cde", b"f"].iter().enumerate() {
+                        assert!(rt; (i as u64) < keys.len());
+                        assert_eq!(rt; keys.key(i as u64), *want);
+                    }
+                }
+                Err(err) => {
+                    assert!(rt; number < 7, "call {number}");
+                    assert_eq!(rt; err, KeysErr::Fault, "call {number}");
+                }
+            }
         }
         Ok(())
     }

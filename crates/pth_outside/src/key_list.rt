@@ -54,9 +54,9 @@ impl KeyList {
         let end = self.bytes.len();
         match self.ends.push(end) {
             Ok(()) => Ok(()),
-            Err(_) => {
+            Err(failed) => {
                 self.bytes.truncate(start);
-                Err(NoMemory)
+                Err(NoMemory::from(failed))
             }
         }
     }

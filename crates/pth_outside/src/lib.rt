@@ -18,7 +18,7 @@ pub use line_reader::{Line, LineErr, LineReader};
 pub use memory_files::MemFiles;
 pub use memory_sink::MemSink;
 pub use sink::{Sink, SinkErr};
-use std::alloc::AllocError;
+use std::alloc::{AllocError, AllocFailed};
 pub use whole::{WholeErr, read_whole};
 
 /// The byte between two keys of a key file.
@@ -33,6 +33,12 @@ pub struct NoMemory;
 
 impl From<AllocError> for NoMemory {
     fn from(_: AllocError) -> Self {
+        NoMemory
+    }
+}
+
+impl<T: Drop> From<AllocFailed<T>> for NoMemory {
+    fn from(_: AllocFailed<T>) -> Self {
         NoMemory
     }
 }

@@ -2,7 +2,8 @@
 ghost use Rattle.std.specs.Prelude.{◌≡◌, ◌≢◌, ◌≤◌, ◌<◌, ◌==◌, ◌/◌, ℕ, List, IsTrue, IsSome, IfOk, OnOk, OnErr, IsErrOf, Some, None, [], length, take, min, option_map, option_copied, vec_len};
 ghost use Rattle.std.specs.FinMap as map;
 ghost use Rattle.pth_outside.specs.Files.{put_at, created, appended, published, removed, one_more, Rose, IsThere, contents, IsRead, AppendsFront};
-ghost use Rattle.pth_outside.specs.Memory.{counted, faulted, with_files, with_mark, is_listed, left_from, MustFail, Ends};
+ghost use Rattle.pth_outside.specs.Memory.{counted, faulted, with_files, is_listed, left_from, MustFail, Ends};
+ghost use Rattle.pth_outside.specs.Memory.{after_create, after_append, after_half, after_publish, after_remove};
 
 use crate::slots::{
     Slot, bytes_at, copy_from, extend, is_marked, make_empty, put_bytes, rename, take_bytes,
@@ -112,15 +113,15 @@ impl MemFiles {
 }
 
 impl Files for MemFiles {
-    ghost told = { λ m. Some m.files };
-
-    ghost faults = { λ m. m.faults };
-
-    ghost sure = { λ m. length m.fails == 0 };
+    ghost state = { λ m. record {
+      told = Some m.files;
+      faults = m.faults;
+      sure = length m.fails == 0;
+    } };
 
     fn read_at(&mut self, name: &str, at: u64, into: &mut [u8]) -> Result<usize, FileErr>
-        ensures ends { let old = self.old in
-            Ends (MustFail old name.now) old (counted old) (faulted old) self.new result }
+        ensures ends { Ends (MustFail self.old name.now) self.old
+            (counted self.old) (faulted self.old) self.new result }
         ensures later { self.old.faults ≤ self.new.faults }
         ensures read { IfOk result (λ count. (bytes : List ℕ) →
             map.get self.old.files name.now ≡ Some bytes →
@@ -140,9 +141,8 @@ impl Files for MemFiles {
     }
 
     fn create(&mut self, name: &str) -> Result<(), FileErr>
-        ensures ends { let old = self.old in
-            let done = with_files (created name.now old.files) (with_mark name.now (counted old)) in
-            Ends (IsTrue (is_listed old)) old done (faulted old) self.new result }
+        ensures ends { Ends (IsTrue (is_listed self.old)) self.old
+            (after_create name.now self.old) (faulted self.old) self.new result }
         ensures later { self.old.faults ≤ self.new.faults }
     {
         if self.begin() {
@@ -153,11 +153,9 @@ impl Files for MemFiles {
     }
 
     fn append(&mut self, name: &str, piece: &[u8]) -> Result<(), FileErr>
-        ensures ends { let old = self.old in
-            let half = take (length piece.now / 2) piece.now in
-            let done = with_files (appended name.now piece.now old.files) (counted old) in
-            let undone = with_files (appended name.now half old.files) (faulted old) in
-            Ends (MustFail old name.now) old done undone self.new result }
+        ensures ends { Ends (MustFail self.old name.now) self.old
+            (after_append name.now piece.now self.old) (after_half name.now piece.now self.old)
+            self.new result }
         ensures later { self.old.faults ≤ self.new.faults }
     {
         let fails = self.begin();
@@ -171,9 +169,8 @@ impl Files for MemFiles {
 
     fn publish(&mut self, from: &str, to: &str) -> Result<(), FileErr>
         requires { from.now ≢ to.now }
-        ensures ends { let old = self.old in
-            let done = with_files (published from.now to.now old.files) (counted old) in
-            Ends (MustFail old from.now) old done (faulted old) self.new result }
+        ensures ends { Ends (MustFail self.old from.now) self.old
+            (after_publish from.now to.now self.old) (faulted self.old) self.new result }
         ensures later { self.old.faults ≤ self.new.faults }
     {
         if self.begin() {
@@ -186,9 +183,8 @@ impl Files for MemFiles {
     }
 
     fn remove(&mut self, name: &str) -> Result<(), FileErr>
-        ensures ends { let old = self.old in
-            let done = with_files (removed name.now old.files) (counted old) in
-            Ends (MustFail old name.now) old done (faulted old) self.new result }
+        ensures ends { Ends (MustFail self.old name.now) self.old
+            (after_remove name.now self.old) (faulted self.old) self.new result }
         ensures later { self.old.faults ≤ self.new.faults }
     {
         if self.begin() {

@@ -1,10 +1,10 @@
 // Reads a file whole.
-ghost use Rattle.std.specs.Prelude.{◌≡◌, ◌≤◌, ℕ, IfOk, IsErrOf, IsTrue, OnOk, None, vec_len};
-ghost use Rattle.pth_outside.specs.Files.{Rose, HasBytes, IsLonger, IsThere, contents};
+ghost use Rattle.std.specs.Prelude.{◌≡◌, ◌≤◌, IfOk, IsErrOf, None, vec_len};
+ghost use Rattle.pth_outside.specs.Files.{ReadsFiles, HasBytes, IsLonger, contents};
 ghost use Rattle.pth_outside.specs.declared.whole.WholeErr.TheVariants.{NoMemory as OutOfMemory};
 
 use crate::{FileErr, Files};
-use std::alloc::{AllocError, Global};
+use std::alloc::{AllocError, AllocFailed, Global};
 
 // How many bytes are asked for at a time.
 const PIECE: usize = 65536;
@@ -27,6 +27,14 @@ impl From<AllocError> for WholeErr {
     }
 }
 
+impl<T: Drop> From<AllocFailed<T>> for WholeErr {
+    ghost from_gives = { λ _ e. e ≡ OutOfMemory };
+
+    fn from(_: AllocFailed<T>) -> Self {
+        WholeErr::NoMemory
+    }
+}
+
 // A buffer of this many zero bytes.
 pub(crate) fn zeros(alloc: Global, len: usize) -> Result<Vec<u8>, AllocError>
     ensures { IfOk result (λ buffer. vec_len buffer ≡ len) }
@@ -41,19 +49,13 @@ pub fn read_whole<F: Files>(
     name: &str,
     most: u64,
 ) -> Result<Vec<u8>, WholeErr>
-    ensures ok { IfOk result (λ bytes. HasBytes (F.told files.old) name.now bytes.items) }
+    ensures ok { IfOk result (λ bytes.
+        HasBytes (F.state files.old).told name.now bytes.items) }
     ensures bound { IfOk result (λ bytes. vec_len bytes ≤ most) }
     ensures too_large { IsErrOf result WholeErr.TooLarge →
-        IsLonger (F.told files.old) name.now most }
-    ensures fault { IsErrOf result WholeErr.Fault →
-        Rose (F.faults files.old) (F.faults files.new) }
-    ensures missing { IsErrOf result WholeErr.Fault → IsTrue (F.sure files.old) →
-        contents (F.told files.old) name.now ≡ None }
-
-    // No file changes, whatever the answer.
-    ensures told { F.told files.new ≡ F.told files.old }
-    ensures sure { F.sure files.new ≡ F.sure files.old }
-    ensures later { F.faults files.old ≤ F.faults files.new }
+        IsLonger (F.state files.old).told name.now most }
+    ensures leaves { ReadsFiles (F.state files.old) (F.state files.new)
+        (IsErrOf result WholeErr.Fault) (contents (F.state files.old).told name.now ≡ None) }
 {
     let mut piece = zeros(alloc, PIECE)?;
     let mut bytes = Vec::new(alloc);
@@ -97,6 +99,30 @@ mod tests {
                 }
                 Err(err) => {
                     assert!(rt; !read, "{text:?} with most {most}");
+                    assert_eq!(rt; err, WholeErr::TooLarge);
+                }
+            }
+        }
+        Ok(())
+    }
+
+    #[test]
+    fn a_file_of_many_pieces_is_read_whole(rt: HostRuntime) -> Result<(), Fail> {
+        let alloc = rt.alloc();
+        let mut text = Vec::new(alloc);
+        for i in 0..150_000u32 {
+            text.push((i % 251) as u8)?;
+        }
+        for (most, read) in [(150_000, true), (149_999, false)] {
+            let mut files = MemFiles::new(alloc, Vec::new(alloc), 100_000);
+            files.put("f", &text).ok().ok_or("memory")?;
+            match read_whole(alloc, &mut files, "f", most) {
+                Ok(bytes) => {
+                    assert!(rt; read, "most {most}");
+                    assert!(rt; bytes == text, "most {most}");
+                }
+                Err(err) => {
+                    assert!(rt; !read, "most {most}");
                     assert_eq!(rt; err, WholeErr::TooLarge);
                 }
             }
