@@ -1,11 +1,9 @@
 -- The definitions of the sizes, case by case.
-use Rattle.std.proofs.Common.{◌≡◌, ℕ, zero, suc, ◌+◌, ◌-◌, ◌*◌, ◌/◌, ◌%◌, ◌^◌, ◌<◌, ◌≤◌, Bool, true, false, cond, max, bit_xor, ◌⊎◌, inl, inr, refl, sym, ap, ◌∙◌, arith}
-use Rattle.std.proofs.Math.Nat.{zero-div, zero-mod, div-lt_iff_lt-mul, mul-zero, mul-le-mul_right, one-le-pow, pow-suc}
+use Rattle.std.proofs.Common.{◌≡◌, ℕ, zero, suc, ◌+◌, ◌*◌, ◌/◌, ◌^◌, ◌<◌, ◌≤◌, Bool, true, false, cond, max, refl, sym, ap, ◌∙◌, arith}
+use Rattle.std.proofs.Math.Nat.{zero-div, zero-mod, mul-zero, one-le-pow, pow-suc}
 use Rattle.std.proofs.lemmas.Bool.{lt-ltb, le-ltb}
-use Rattle.std.proofs.lemmas.Nat.{xor_lt}
 use Rattle.std.specs.Int.{div_ceil, is_power_of_two}
-use Rattle.pthash.specs.declared.TheConstants.{FRONT_HASHES}
-use Rattle.pthash.specs.Sizes.{halvings, floor_log2, table_size_of, bucket_count_of, front_count_of, bucket_of, partition_of}
+use Rattle.pthash.specs.Sizes.{halvings, floor_log2, table_size_of, bucket_count_of}
 
 -- a power of two is raised
 pub table_size_of-power : (n alpha size : ℕ) → size ≡ div_ceil (100 * n) alpha → is_power_of_two size ≡ true
@@ -56,28 +54,3 @@ unfolding bucket_count_of
 bucket_count_of-some n c e low high few =
     ap (λ (g : ℕ). div_ceil (c * n) (100 * g)) (omega arith)
     ∙ ap (λ (g : ℕ). div_ceil (c * n) (100 * max 1 g)) (sym (floor_log2-is e n low high few))
-
--- a front hash goes to a front bucket, if there is one
-pub bucket_of-front : (a m front : ℕ) → front ≡ front_count_of m → a < FRONT_HASHES → 0 < front → a % front ≡ bucket_of a m
-unfolding bucket_of
-bucket_of-front a m front is low some =
-    let present : 0 < front_count_of m = omega arith in
-    rw (lt-ltb a FRONT_HASHES low, lt-ltb 0 (front_count_of m) present) (ap (λ (f : ℕ). a % f) is)
-
--- any other hash goes to a back bucket
-pub bucket_of-back : (a m front : ℕ) → front ≡ front_count_of m → ((a < FRONT_HASHES) × (front ≤ 0)) ⊎ (FRONT_HASHES ≤ a)
-    → front + a % (m - front) ≡ bucket_of a m
-unfolding bucket_of
-bucket_of-back a m front is (inl low) =
-    let absent : front_count_of m ≤ 0 = omega arith in
-    rw (lt-ltb a FRONT_HASHES low.0, le-ltb 0 (front_count_of m) absent) (ap (λ (f : ℕ). f + a % (m - f)) is)
-bucket_of-back a m front is (inr high) =
-    rw (le-ltb a FRONT_HASHES high) (ap (λ (f : ℕ). f + a % (m - f)) is)
-
--- a partition is below their number
-pub partition_of-lt : (a b parts : ℕ) → a < 2 ^ 64 → b < 2 ^ 64 → 1 ≤ parts → partition_of a b parts < parts
-unfolding partition_of
-partition_of-lt a b parts a_fits b_fits some =
-    let xor_fits : bit_xor a b < 2 ^ 64 = xor_lt 64 a b a_fits b_fits in
-    let most : bit_xor a b * parts ≤ (2 ^ 64 - 1) * parts = mul-le-mul_right parts (omega arith) in
-    (div-lt_iff_lt-mul {k = 2 ^ 64} {x = bit_xor a b * parts} {y = parts} (omega arith)).1 (omega arith)

@@ -1,6 +1,8 @@
 pub use Rattle.pthash.specs.Sizes
 pub use Rattle.pthash.specs.Order
 pub use Rattle.pthash.specs.Partitions
+pub use Rattle.pthash.specs.Shapes
+pub mod ShapeData
 pub mod Grouping
 pub mod Ranking
 pub mod Layout

@@ -1,4 +1,4 @@
-#![tactic(auto)]
+// The least two records with the same pair of hashes.
 
 ghost use Rattle.std.specs.Prelude.{◌≡◌, ◌↔◌, AllPairs, IsNone, IfSome};
 ghost use Rattle.std.specs.List.Sorted.{IsPermutation};

@@ -12,7 +12,8 @@ mod tests;
 pub use crate::clash::least_clash;
 pub use crate::order::{Buckets, NoMemory, ordered_buckets};
 pub use crate::partition::{Partitions, partitioned};
-pub use crate::sizes::{
-    MAX_BUCKETS, MAX_KEYS, Shape, bucket_count, bucket_of, front_count, partition_of, table_size,
+pub use crate::sizes::{Shape, bucket_count, bucket_of, front_count, partition_of, table_size};
+pub use pthash::{
+    MAX_ALPHA, MAX_BUCKETS, MAX_C, MAX_KEYS, MAX_PARTITIONS, MAX_PILOTS, MAX_POSITIONS, MIN_ALPHA,
+    MIN_C, Map, Record,
 };
-pub use pthash::Record;

@@ -1,3 +1,5 @@
+// Sizes, buckets, partitions and clashes, beside those of an independent program.
+
 use super::*;
 use std::test::Fail;
 
@@ -20,7 +22,8 @@ fn sizes_are_those_of_an_independent_program(rt: HostRuntime) {
         (65536, 100, 700, 65537, 28672, 8601),
     ];
     for (n, alpha, c, size, buckets, front) in cases {
-        assert!(rt; n <= MAX_KEYS && 50 <= alpha && alpha <= 100 && 100 <= c && c <= 1500);
+        assert!(rt; n <= MAX_KEYS);
+        assert!(rt; MIN_ALPHA <= alpha && alpha <= MAX_ALPHA && MIN_C <= c && c <= MAX_C);
         assert_eq!(rt; table_size(n, alpha), size, "size of {n}");
         let m = bucket_count(n, c);
         assert_eq!(rt; m, buckets, "buckets of {n}");
@@ -31,9 +34,15 @@ fn sizes_are_those_of_an_independent_program(rt: HostRuntime) {
 #[test]
 fn a_border_hash_is_a_back_hash(rt: HostRuntime) {
     let border = pthash::FRONT_HASHES;
-    assert_eq!(rt; bucket_of(border - 1, 7), 0);
-    assert_eq!(rt; bucket_of(border, 7), 6);
-    assert_eq!(rt; bucket_of(5, 3), 2);
+    for (map, a, m, bucket) in [
+        (Map::Skewed, border - 1, 7, 0),
+        (Map::Skewed, border, 7, 6),
+        (Map::Skewed, 5, 3, 2),
+        (Map::Skewed, u64::MAX, 7, 2),
+        (Map::Uniform, u64::MAX, 7, 1),
+    ] {
+        assert_eq!(rt; bucket_of(map, a, m), bucket, "bucket of {a}");
+    }
     assert_eq!(rt; partition_of(u64::MAX, 0, 8), 7);
     assert_eq!(rt; partition_of(12345, 12345, 8), 0);
 }
@@ -41,7 +50,7 @@ fn a_border_hash_is_a_back_hash(rt: HostRuntime) {
 #[test]
 fn the_larger_bucket_comes_first(rt: HostRuntime) -> Result<(), Fail> {
     let border = pthash::FRONT_HASHES;
-    let hashes = [
+    let seven = [
         0,
         1,
         border + 1,
@@ -50,21 +59,37 @@ fn the_larger_bucket_comes_first(rt: HostRuntime) -> Result<(), Fail> {
         border + 2,
         border + 5,
     ];
-    let mut records = Vec::new(rt.alloc());
-    for (i, a) in hashes.iter().enumerate() {
-        let ordinal = i as u64;
-        let b = 10 + ordinal;
-        records.push(Record { a: *a, b, ordinal })?;
-    }
-    let buckets = ordered_buckets(rt.alloc(), &records, 4)?;
-    let wanted: [(u64, &[u64]); 3] = [(2, &[12, 13, 14]), (0, &[10, 11]), (3, &[15, 16])];
-    assert_eq!(rt; buckets.len(), 3);
-    assert_eq!(rt; buckets.largest(), 3);
-    for (rank, (number, members)) in wanted.iter().enumerate() {
-        let rank = rank as u64;
-        assert!(rt; rank < buckets.len());
-        assert_eq!(rt; buckets.bucket(rank), *number);
-        assert_eq!(rt; buckets.members(rank), *members);
+    let four = [0, 1, 2, 4];
+    let cases: [(Map, &[u64], &[(u64, &[u64])]); 3] = [
+        (
+            Map::Skewed,
+            &seven,
+            &[(2, &[12, 13, 14]), (0, &[10, 11]), (3, &[15, 16])],
+        ),
+        (Map::Skewed, &four, &[(0, &[10, 11, 12, 13])]),
+        (
+            Map::Uniform,
+            &four,
+            &[(0, &[10, 13]), (1, &[11]), (2, &[12])],
+        ),
+    ];
+    for (map, hashes, wanted) in cases {
+        let mut records = Vec::new(rt.alloc());
+        for (i, a) in hashes.iter().enumerate() {
+            let ordinal = i as u64;
+            let b = 10 + ordinal;
+            records.push(Record { a: *a, b, ordinal })?;
+        }
+        let buckets = ordered_buckets(rt.alloc(), &records, map, 4)?;
+        assert_eq!(rt; buckets.len(), wanted.len() as u64);
+        assert!(rt; buckets.len() > 0);
+        assert_eq!(rt; buckets.largest(), buckets.members(0).len() as u64);
+        for (rank, (number, members)) in wanted.iter().enumerate() {
+            let rank = rank as u64;
+            assert!(rt; rank < buckets.len());
+            assert_eq!(rt; buckets.bucket(rank), *number);
+            assert_eq!(rt; buckets.members(rank), *members);
+        }
     }
     Ok(())
 }

@@ -1,5 +1,6 @@
 pub mod Hash
 pub mod Sizes
+pub mod SizeLaws
 pub mod Shapes
 pub mod Records
 pub mod Order

@@ -1,6 +1,6 @@
 use Rattle.std.proofs.Common.{◌≡◌, ◌<◌, ℕ, ◌*◌, ◌/◌, ◌^◌, bit_xor, ap, ◌∙◌, arith}
 use Rattle.pthash.specs.Sizes.{partition_of}
-use Rattle.bucket_map.proofs.SizeLemmas.{partition_of-lt}
+use Rattle.pthash.specs.SizeLaws.{partition_of-lt}
 use Rattle.bucket_map.proofs.sizes.partition_of.Goals as goal
 
 value : (c : goal.After-from-2) → c.from.result * c.from-2.result / 2 ^ 64 ≡ partition_of c.args.a c.args.b c.args.parts
