@@ -5,7 +5,7 @@ use std::alloc::Global;
 
 /// The bytes of a file that has at most 1,000, or `None`.
 pub fn small<F: Files>(alloc: Global, files: &mut F, name: &str) -> Option<Vec<u8>>
-    ensures { F.told files.new ≡ F.told files.old }
+    ensures { (F.state files.new).told ≡ (F.state files.old).told }
 {
     read_whole(alloc, files, name, 1000).ok()
 }

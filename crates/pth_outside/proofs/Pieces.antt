@@ -1,6 +1,6 @@
 -- A file that is read piece by piece.
 use Rattle.std.proofs.lemmas.Bool.{false≢true}
-use Rattle.std.proofs.Common.{◌≡◌, ◌≤◌, ◌<◌, ◌+◌, ◌-◌, ℕ, Bool, List, ◌++◌, Option, Some, None, IsSome, length, take, drop, sym, subst, refl, ap, ◌∙◌, ⊎_elim, arith, length-append}
+use Rattle.std.proofs.Common.{◌≡◌, ◌≤◌, ◌<◌, ◌+◌, ◌-◌, ℕ, List, ◌++◌, Option, Some, None, IsSome, length, take, drop, sym, subst, refl, ap, ◌∙◌, ⊎_elim, arith, length-append}
 use Rattle.std.proofs.lemmas.List.{take_all, length-take-le, take-take, take-append-le}
 use Rattle.std.proofs.Math.Seq.{take-add}
 use Rattle.pth_outside.specs.Files.{FileMap, contents, IsRead, IsThere, HasBytes}
@@ -9,12 +9,6 @@ use Rattle.pth_outside.specs.Files.{FileMap, contents, IsRead, IsThere, HasBytes
 pub record IsFront (file : Option (List ℕ)) (bytes : List ℕ) : Type 0 where
   pub fits : (whole : List ℕ) → file ≡ Some whole → length bytes ≤ length whole
   pub front : (whole : List ℕ) → file ≡ Some whole → take (length bytes) whole ≡ bytes
-
--- nothing of the files has changed but the count, which didn't fall
-pub record IsKept (t t' : Option FileMap) (s s' : Bool) (before now : ℕ) : Type 0 where
-  pub told : t' ≡ t
-  pub sure : s' ≡ s
-  pub later : before ≤ now
 
 -- the front is the whole where nothing is left
 all_of : (w bytes : List ℕ) → take (length bytes) w ≡ bytes → length w ≤ length bytes → w ≡ bytes

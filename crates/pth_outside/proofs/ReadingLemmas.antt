@@ -11,11 +11,11 @@ use Rattle.std.proofs.lemmas.List.{take_all, take-take, get_or-take, take-append
 use Rattle.std.proofs.lemmas.List.Splits.{slice_split-cons_no, length-slice_split}
 use Rattle.std.proofs.Math.Seq.{take-add, drop-cons}
 use Rattle.pth_outside.specs.declared.TheConstants.{LINE_FEED, LONGEST_KEY}
-use Rattle.pth_outside.specs.Files.{FileMap, contents, IsThere}
+use Rattle.pth_outside.specs.Files.{FileMap, FilesState, ReadsFiles, contents, IsThere}
 use Rattle.pth_outside.specs.Keys.{keys_of, without_empty_last, HasNoFeed}
 use Rattle.pth_outside.specs.KeyLaws.{keys_of-nothing, keys_of-feed, keys_of-last}
 use Rattle.pth_outside.specs.Reading.{Reader, IsInStep, IsAt, advanced, lines_left, HasLongFirst, IsStuck, IsFirstFeed, IsNextLine, IsTooLong}
-use Rattle.pth_outside.proofs.Pieces.{IsKept}
+use Rattle.pth_outside.specs.FilesLaws.{ReadsFiles-ok, ReadsFiles-then}
 use Rattle.std.specs.Option.{ForSome}
 use Rattle.std.proofs.Common.{◌⊎◌, ⊎_elim, inr}
 
@@ -185,30 +185,30 @@ too_long old mid told line at step number stuck there = record {
   there = λ empty. ⊎_elim (λ e. absurd (omega (arith, ap length e, stuck.full))) (λ t. t) (there empty);
 }
 
--- a reader on its way to the end of a line
-pub record SearchesOn (old mid : Reader) (t t' : Option FileMap) (s s' : Bool) (before now : ℕ) : Type 0 where
+-- a reader on its way to the end of a line, before any call failed
+pub record SearchesOn (old mid : Reader) (s s' : FilesState) : Type 0 where
   pub at : IsAt old mid
-  pub kept : IsKept t t' s s' before now
-  pub step : IsInStep old t → IsInStep mid t
+  pub kept : ReadsFiles s s' ⊥ ⊥
+  pub step : IsInStep old s.told → IsInStep mid s.told
   pub stuck : IsStuck old.ahead → mid.ahead ≡ old.ahead
-  pub there : old.ahead ≡ [] → (mid.ahead ≡ []) ⊎ IsThere t old.name
+  pub there : old.ahead ≡ [] → (mid.ahead ≡ []) ⊎ IsThere s.told old.name
 
 -- after it has read on
-pub SearchesOn-more : (old mid new : Reader) (t t' t'' : Option FileMap) (s s' s'' : Bool) (before now later count : ℕ)
-    → SearchesOn old mid t t' s s' before now → IsAt mid new → t'' ≡ t' → s'' ≡ s' → now ≤ later → (length mid.ahead ≡ LONGEST_KEY + 1 → ⊥)
-    → ForSome (contents t' mid.name) (λ bytes. new.ahead ≡ mid.ahead ++ take count (drop (mid.place + length mid.ahead) bytes))
-    → ForSome (contents t' mid.name) (λ bytes. count ≤ length bytes - (mid.place + length mid.ahead))
-    → IsThere t' mid.name → SearchesOn old new t t'' s s'' before later
-SearchesOn-more old mid new t t' t'' s s' s'' before now later count on at told sure more room read within there =
+pub SearchesOn-more : {failed because : Type 0} (old mid new : Reader) (s s' s'' : FilesState) (count : ℕ)
+    → SearchesOn old mid s s' → IsAt mid new → ReadsFiles s' s'' failed because → (length mid.ahead ≡ LONGEST_KEY + 1 → ⊥)
+    → ForSome (contents s'.told mid.name) (λ bytes. new.ahead ≡ mid.ahead ++ take count (drop (mid.place + length mid.ahead) bytes))
+    → ForSome (contents s'.told mid.name) (λ bytes. count ≤ length bytes - (mid.place + length mid.ahead))
+    → IsThere s'.told mid.name → SearchesOn old new s s''
+SearchesOn-more old mid new s s' s'' count on at reads room read within there =
     let P : Option FileMap → Type 0 = λ o. ForSome (contents o mid.name) (λ bytes. new.ahead ≡ mid.ahead ++ take count (drop (mid.place + length mid.ahead) bytes)) in
     let Q : Option FileMap → Type 0 = λ o. ForSome (contents o mid.name) (λ bytes. count ≤ length bytes - (mid.place + length mid.ahead)) in
     let R : Option FileMap → Type 0 = λ o. IsThere o mid.name in
-    let before_now : before ≤ now = on.kept.later in record {
+    record {
       at = IsAt-then old mid new on.at at;
-      kept = record { told = told ∙ on.kept.told; sure = sure ∙ on.kept.sure; later = omega arith };
-      step = λ start. step_more mid new t count at (subst P on.kept.told read) (subst Q on.kept.told within) (on.step start);
+      kept = ReadsFiles-then (λ o. ⊥) s s' s'' on.kept (ReadsFiles-ok s' s'' (λ e. absurd e) reads);
+      step = λ start. step_more mid new s.told count at (subst P on.kept.told read) (subst Q on.kept.told within) (on.step start);
       stuck = λ stuck. absurd (room (ap length (on.stuck stuck) ∙ stuck.full));
-      there = λ empty. inr (subst (λ (name : List ℕ). IsThere t name) on.at.name (subst R on.kept.told there));
+      there = λ empty. inr (subst (λ (name : List ℕ). IsThere s.told name) on.at.name (subst R on.kept.told there));
     }
 
 -- a line given keeps the reader in step

@@ -1,5 +1,7 @@
--- What files hold, what each call changes in them, and when a count rose.
-use Rattle.std.specs.Prelude.{◌≡◌, ℕ, ◌+◌, ◌-◌, ◌^◌, ◌<◌, ◌≤◌, min, ◌↔◌, ◌⊎◌, List, [], ◌++◌, length, take, drop, Option, None, Some, IsSome, IsSomeAnd, option_map, option_and_then}
+-- What files hold, what each call changes in them and leaves, and when a count rose.
+use Rattle.std.specs.Prelude.{◌≡◌, ℕ, ◌+◌, ◌-◌, ◌^◌, ◌<◌, ◌≤◌, min, ◌↔◌, ◌⊎◌, Bool, IsTrue}
+use Rattle.std.specs.Prelude.{List, [], ◌++◌, length, take, drop}
+use Rattle.std.specs.Prelude.{Option, None, Some, IsSome, IsSomeAnd, option_map, option_and_then}
 use Rattle.std.specs.Ordering.{nat_cmp}
 use Rattle.std.specs.Cmp.Lexicographic.{slice_cmp}
 use Rattle.std.specs.FinMap as map
@@ -11,6 +13,13 @@ AtNames X = map.FinMap (slice_cmp nat_cmp) X
 -- the files that are there, with their bytes
 abbrev pub FileMap : Type 0
 FileMap = AtNames (List ℕ)
+
+-- what is known of files: those that are there, where the files tell; how many calls have failed, up to the last value of
+-- the count; and whether a missing file is the only cause of a failure, where the files tell
+pub record FilesState : Type 0 where
+  pub told : Option FileMap
+  pub faults : ℕ
+  pub sure : Bool
 
 -- a count that ends at the last value of its type rose
 abbrev pub Rose : ℕ → ℕ → Type 0
@@ -64,6 +73,22 @@ removed name files = put_at files name None
 -- some front of the piece stands at the end of the file
 abbrev pub AppendsFront : List ℕ → List ℕ → Option FileMap → Option FileMap → Type 0
 AppendsFront name piece old new = (n : ℕ) × (new ≡ option_map (appended name (take n piece)) old)
+
+-- what every call on files leaves: whether they are sure stays and the count of failures doesn't fall;
+-- a call that failed has raised the count, and over sure files it had this cause
+pub record LeavesFiles (old new : FilesState) (failed because : Type 0) : Type 0 where
+  pub sure : new.sure ≡ old.sure
+  pub later : old.faults ≤ new.faults
+  pub fault : failed → Rose old.faults new.faults
+  pub missing : failed → IsTrue old.sure → because
+
+-- what every call leaves that only reads: the same, and no file changes
+pub record ReadsFiles (old new : FilesState) (failed because : Type 0) : Type 0 where
+  pub told : new.told ≡ old.told
+  pub sure : new.sure ≡ old.sure
+  pub later : old.faults ≤ new.faults
+  pub fault : failed → Rose old.faults new.faults
+  pub missing : failed → IsTrue old.sure → because
 
 -- the first count bytes are those of the file from a place on, the others are as before; none only for no room or past the end
 pub record IsRead (bytes : List ℕ) (at : ℕ) (old new : List ℕ) (count : ℕ) : Type 0 where

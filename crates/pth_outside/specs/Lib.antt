@@ -1,4 +1,5 @@
 pub mod Files
+pub mod FilesLaws
 pub mod KeyBytes
 pub mod KeyLaws
 pub mod Keys
@@ -7,4 +8,5 @@ pub mod MemorySink
 pub mod ReaderFields
 pub mod Reading
 pub mod Sink
+pub mod SinkLaws
 pub mod Slots

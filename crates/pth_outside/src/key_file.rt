@@ -1,6 +1,6 @@
 // Reads the keys of a file.
-ghost use Rattle.std.specs.Prelude.{◌≡◌, ◌≤◌, ℕ, Some, None, length, take, IfOk, IsErrOf, IsTrue};
-ghost use Rattle.pth_outside.specs.Files.{Rose, OfFile, contents};
+ghost use Rattle.std.specs.Prelude.{◌≡◌, ◌≤◌, ℕ, Some, None, length, take, IfOk, IsErrOf};
+ghost use Rattle.pth_outside.specs.Files.{ReadsFiles, OfFile, contents};
 ghost use Rattle.pth_outside.specs.Keys.{keys_of, first_too_long, AreTooMany};
 
 use crate::{Files, KeyList, Line, LineErr, LineReader, NoMemory};
@@ -27,23 +27,16 @@ pub fn read_keys<F: Files>(
 ) -> Result<KeyList, KeysErr>
     requires { most ≤ 67108864 }
     ensures ok { IfOk result (λ keys.
-        OfFile (F.told files.old) name.now (λ bytes. keys ≡ keys_of bytes)) }
+        OfFile (F.state files.old).told name.now (λ bytes. keys ≡ keys_of bytes)) }
     ensures bound { IfOk result (λ keys. length keys ≤ most) }
     ensures short { IfOk result (λ keys. first_too_long keys ≡ None) }
     ensures too_long { (line : ℕ) → IsErrOf result (KeysErr.TooLong line) →
-        OfFile (F.told files.old) name.now (λ bytes.
+        OfFile (F.state files.old).told name.now (λ bytes.
         first_too_long (take most (keys_of bytes)) ≡ Some line) }
     ensures too_many { IsErrOf result KeysErr.TooMany →
-        OfFile (F.told files.old) name.now (λ bytes. AreTooMany most (keys_of bytes)) }
-    ensures fault { IsErrOf result KeysErr.Fault →
-        Rose (F.faults files.old) (F.faults files.new) }
-    ensures missing { IsErrOf result KeysErr.Fault → IsTrue (F.sure files.old) →
-        contents (F.told files.old) name.now ≡ None }
-
-    // No file changes, whatever the answer.
-    ensures told { F.told files.new ≡ F.told files.old }
-    ensures sure { F.sure files.new ≡ F.sure files.old }
-    ensures later { F.faults files.old ≤ F.faults files.new }
+        OfFile (F.state files.old).told name.now (λ bytes. AreTooMany most (keys_of bytes)) }
+    ensures leaves { ReadsFiles (F.state files.old) (F.state files.new)
+        (IsErrOf result KeysErr.Fault) (contents (F.state files.old).told name.now ≡ None) }
 {
     let mut reader = match LineReader::new(alloc, name) {
         Ok(reader) => reader,

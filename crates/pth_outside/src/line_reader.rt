@@ -1,7 +1,7 @@
 // The lines of a file, one after another.
-ghost use Rattle.std.specs.Prelude.{◌≡◌, ◌↔◌, ◌+◌, ◌-◌, ◌<◌, ◌≤◌, ◌^◌, ◌++◌, ℕ, List, [], ◌∷◌, Ok, Err, None, length, take, drop, IfOk, IfSome, IfNone, OnOk, OnErr, IsErrOf, IsTrue, vec_len};
+ghost use Rattle.std.specs.Prelude.{◌≡◌, ◌↔◌, ◌+◌, ◌-◌, ◌<◌, ◌≤◌, ◌^◌, ◌++◌, ℕ, List, [], ◌∷◌, Ok, Err, None, length, take, drop, IfOk, IfSome, IfNone, OnOk, OnErr, IsErrOf, vec_len};
 ghost use Rattle.std.specs.Option.{ForSome};
-ghost use Rattle.pth_outside.specs.Files.{Rose, contents, IsThere};
+ghost use Rattle.pth_outside.specs.Files.{ReadsFiles, contents, IsThere};
 ghost use Rattle.pth_outside.specs.Keys.{keys_of, HasNoFeed};
 ghost use Rattle.pth_outside.specs.Reading.{IsInStep, lines_left, advanced, IsAt, HasLongFirst, IsStuck, IsFirstFeed, IsNextLine, IsTooLong};
 
@@ -77,21 +77,16 @@ fn read_behind<F: Files>(
     requires { end ≤ length buffer.old }
     ensures bound { IfOk result (λ count. end + count ≤ length buffer.old) }
     ensures front { take end buffer.new ≡ take end buffer.old }
-    ensures read { IfOk result (λ count. ForSome (contents (F.told files.old) name.now) (λ bytes.
+    ensures read { IfOk result (λ count. ForSome (contents (F.state files.old).told name.now) (λ bytes.
         take (end + count) buffer.new ≡ take end buffer.old ++ take count (drop at bytes))) }
-    ensures nothing { IfOk result (λ count. ForSome (contents (F.told files.old) name.now) (λ bytes.
+    ensures nothing { IfOk result (λ count. ForSome (contents (F.state files.old).told name.now) (λ bytes.
         count ≡ 0 → end < length buffer.old → length bytes ≤ at)) }
-    ensures within { IfOk result (λ count. ForSome (contents (F.told files.old) name.now) (λ bytes.
+    ensures within { IfOk result (λ count. ForSome (contents (F.state files.old).told name.now) (λ bytes.
         count ≤ length bytes - at)) }
 
-    ensures there { OnOk result (IsThere (F.told files.old) name.now) }
-    ensures told { F.told files.new ≡ F.told files.old }
-    ensures sure { F.sure files.new ≡ F.sure files.old }
-    ensures later { F.faults files.old ≤ F.faults files.new }
-    ensures failed { IsErrOf result FileErr.Failed →
-        Rose (F.faults files.old) (F.faults files.new) }
-    ensures missing { IsErrOf result FileErr.Failed → IsTrue (F.sure files.old) →
-        contents (F.told files.old) name.now ≡ None }
+    ensures there { OnOk result (IsThere (F.state files.old).told name.now) }
+    ensures leaves { ReadsFiles (F.state files.old) (F.state files.new)
+        (IsErrOf result FileErr.Failed) (contents (F.state files.old).told name.now ≡ None) }
 {
     files.read_at(name, at, &mut buffer[end..])
 }
@@ -167,24 +162,19 @@ impl LineReader {
         ensures err { OnErr result (self.new.ahead ≡ self.old.ahead) }
         ensures none { result ≡ Ok 0 → self.new.ahead ≡ self.old.ahead }
         ensures read { IfOk result (λ count.
-            ForSome (contents (F.told files.old) self.old.name) (λ bytes.
+            ForSome (contents (F.state files.old).told self.old.name) (λ bytes.
             let at = self.old.place + length self.old.ahead in
             self.new.ahead ≡ self.old.ahead ++ take count (drop at bytes))) }
         ensures nothing { result ≡ Ok 0 →
-            ForSome (contents (F.told files.old) self.old.name) (λ bytes.
+            ForSome (contents (F.state files.old).told self.old.name) (λ bytes.
             length bytes ≤ self.old.place + length self.old.ahead) }
         ensures within { IfOk result (λ count.
-            ForSome (contents (F.told files.old) self.old.name) (λ bytes.
+            ForSome (contents (F.state files.old).told self.old.name) (λ bytes.
             count ≤ length bytes - (self.old.place + length self.old.ahead))) }
 
-        ensures there { OnOk result (IsThere (F.told files.old) self.old.name) }
-        ensures told { F.told files.new ≡ F.told files.old }
-        ensures sure { F.sure files.new ≡ F.sure files.old }
-        ensures later { F.faults files.old ≤ F.faults files.new }
-        ensures failed { IsErrOf result FileErr.Failed →
-            Rose (F.faults files.old) (F.faults files.new) }
-        ensures missing { IsErrOf result FileErr.Failed → IsTrue (F.sure files.old) →
-            contents (F.told files.old) self.old.name ≡ None }
+        ensures there { OnOk result (IsThere (F.state files.old).told self.old.name) }
+        ensures leaves { ReadsFiles (F.state files.old) (F.state files.new)
+            (IsErrOf result FileErr.Failed) (contents (F.state files.old).told self.old.name ≡ None) }
     {
         self.buffer.rotate_left(self.start);
         self.end -= self.start;
@@ -205,27 +195,22 @@ impl LineReader {
     fn find_line<F: Files>(&mut self, files: &mut F) -> Result<Option<Span>, LineErr>
         requires { self.old.lines < 2 ^ 40 }
         ensures at { IsAt self.old self.new }
-        ensures step { IsInStep self.old (F.told files.old) →
-            IsInStep self.new (F.told files.old) }
+        ensures step { IsInStep self.old (F.state files.old).told →
+            IsInStep self.new (F.state files.old).told }
         ensures line { IfOk result (λ found. IfSome found (λ span.
-            IsNextLine self.new (F.told files.old) span.len span.whole)) }
-        ensures end { result ≡ Ok None → IsInStep self.old (F.told files.old) →
-            ForSome (contents (F.told files.old) self.old.name) (λ bytes.
+            IsNextLine self.new (F.state files.old).told span.len span.whole)) }
+        ensures end { result ≡ Ok None → IsInStep self.old (F.state files.old).told →
+            ForSome (contents (F.state files.old).told self.old.name) (λ bytes.
             lines_left self.old bytes ≡ []) }
         ensures too_long { (line : ℕ) → IsErrOf result (LineErr.TooLong line) →
-            IsTooLong self.old self.new (F.told files.old) line }
+            IsTooLong self.old self.new (F.state files.old).told line }
         ensures again { IsStuck self.old.ahead →
             IsErrOf result (LineErr.TooLong (self.old.lines + 1)) }
 
         ensures there { OnOk result (self.old.ahead ≡ [] →
-            IsThere (F.told files.old) self.old.name) }
-        ensures told { F.told files.new ≡ F.told files.old }
-        ensures sure { F.sure files.new ≡ F.sure files.old }
-        ensures later { F.faults files.old ≤ F.faults files.new }
-        ensures fault { IsErrOf result LineErr.Fault →
-            Rose (F.faults files.old) (F.faults files.new) }
-        ensures missing { IsErrOf result LineErr.Fault → IsTrue (F.sure files.old) →
-            contents (F.told files.old) self.old.name ≡ None }
+            IsThere (F.state files.old).told self.old.name) }
+        ensures leaves { ReadsFiles (F.state files.old) (F.state files.new)
+            (IsErrOf result LineErr.Fault) (contents (F.state files.old).told self.old.name ≡ None) }
     {
         loop {
             if let Some(len) = self.feed() {
@@ -261,15 +246,15 @@ impl LineReader {
         into: &mut Vec<u8>,
     ) -> Result<Line, LineErr>
         requires { self.old.lines < 2 ^ 40 }
-        ensures got { result ≡ Ok Line.Got → IsInStep self.old (F.told files.old) →
-            ForSome (contents (F.told files.old) self.old.name) (λ bytes.
+        ensures got { result ≡ Ok Line.Got → IsInStep self.old (F.state files.old).told →
+            ForSome (contents (F.state files.old).told self.old.name) (λ bytes.
             lines_left self.old bytes ≡ into.new.items ∷ lines_left self.new bytes) }
-        ensures end { result ≡ Ok Line.End → IsInStep self.old (F.told files.old) →
-            ForSome (contents (F.told files.old) self.old.name) (λ bytes.
+        ensures end { result ≡ Ok Line.End → IsInStep self.old (F.state files.old).told →
+            ForSome (contents (F.state files.old).told self.old.name) (λ bytes.
             lines_left self.old bytes ≡ []) }
         ensures short { OnOk result (vec_len into.new ≤ LONGEST_KEY) }
         ensures too_long { (line : ℕ) → IsErrOf result (LineErr.TooLong line) →
-            IsTooLong self.old self.new (F.told files.old) line }
+            IsTooLong self.old self.new (F.state files.old).told line }
         ensures again { IsStuck self.old.ahead →
             IsErrOf result (LineErr.TooLong (self.old.lines + 1)) }
 
@@ -278,21 +263,15 @@ impl LineReader {
         ensures counted { result ≡ Ok Line.Got → self.new.lines ≡ self.old.lines + 1 }
         ensures stays { result ≡ Ok Line.End → IsAt self.old self.new }
         ensures err { OnErr result (IsAt self.old self.new) }
-        ensures step { IsInStep self.old (F.told files.old) →
-            IsInStep self.new (F.told files.old) }
+        ensures step { IsInStep self.old (F.state files.old).told →
+            IsInStep self.new (F.state files.old).told }
         ensures empty { result ≡ Ok Line.End → into.new.items ≡ [] }
         ensures empty_err { OnErr result (into.new.items ≡ []) }
 
-        // No file changes, whatever the answer.
         ensures there { OnOk result (self.old.ahead ≡ [] →
-            IsThere (F.told files.old) self.old.name) }
-        ensures told { F.told files.new ≡ F.told files.old }
-        ensures sure { F.sure files.new ≡ F.sure files.old }
-        ensures later { F.faults files.old ≤ F.faults files.new }
-        ensures fault { IsErrOf result LineErr.Fault →
-            Rose (F.faults files.old) (F.faults files.new) }
-        ensures missing { IsErrOf result LineErr.Fault → IsTrue (F.sure files.old) →
-            contents (F.told files.old) self.old.name ≡ None }
+            IsThere (F.state files.old).told self.old.name) }
+        ensures leaves { ReadsFiles (F.state files.old) (F.state files.new)
+            (IsErrOf result LineErr.Fault) (contents (F.state files.old).told self.old.name ≡ None) }
     {
         into.clear();
         match self.find_line(files)? {

@@ -112,11 +112,11 @@ impl MemFiles {
 }
 
 impl Files for MemFiles {
-    ghost told = { λ m. Some m.files };
-
-    ghost faults = { λ m. m.faults };
-
-    ghost sure = { λ m. length m.fails == 0 };
+    ghost state = { λ m. record {
+      told = Some m.files;
+      faults = m.faults;
+      sure = length m.fails == 0;
+    } };
 
     fn read_at(&mut self, name: &str, at: u64, into: &mut [u8]) -> Result<usize, FileErr>
         ensures ends { let old = self.old in

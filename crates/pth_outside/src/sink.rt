@@ -1,7 +1,6 @@
 // Where the program writes its text.
-ghost use Rattle.std.specs.Prelude.{◌≡◌, ◌≤◌, ℕ, List, Option, OnOk, IsErrOf};
-ghost use Rattle.pth_outside.specs.Files.{Rose};
-ghost use Rattle.pth_outside.specs.Sink.{written, WritesFront};
+ghost use Rattle.std.specs.Prelude.{◌≡◌, OnOk, IsErrOf};
+ghost use Rattle.pth_outside.specs.Sink.{SinkState, LeavesSink, written, WritesFront};
 ghost use Rattle.pth_outside.specs.declared.sink.SinkErr.TheVariants.{NoMemory};
 
 use std::alloc::AllocError;
@@ -24,20 +23,17 @@ impl From<AllocError> for SinkErr {
 
 /// A place that takes bytes one after another.
 pub trait Sink {
-    /// The bytes written so far, if they are known.
-    ghost told: { Self → Option (List ℕ) };
-
-    /// How many writes have failed, up to the last value of the count.
-    ghost faults: { Self → ℕ };
+    /// The bytes written so far, if they are known, and how many writes have failed.
+    ghost state: { Self → SinkState };
 
     /// Writes the whole piece. A failure may leave the front of it written.
     fn write(&mut self, piece: &[u8]) -> Result<(), SinkErr>
-        ensures ok { OnOk result (told self.new ≡ written piece.now (told self.old)) }
+        ensures ok { OnOk result
+            ((state self.new).told ≡ written piece.now (state self.old).told) }
         ensures front { IsErrOf result SinkErr.Failed →
-            WritesFront piece.now (told self.old) (told self.new) }
-        ensures kept { IsErrOf result SinkErr.NoMemory → told self.new ≡ told self.old }
-
-        ensures later { faults self.old ≤ faults self.new }
-        ensures failed { IsErrOf result SinkErr.Failed →
-            Rose (faults self.old) (faults self.new) };
+            WritesFront piece.now (state self.old) (state self.new) }
+        ensures kept { IsErrOf result SinkErr.NoMemory →
+            (state self.new).told ≡ (state self.old).told }
+        ensures leaves { LeavesSink (state self.old) (state self.new)
+            (IsErrOf result SinkErr.Failed) };
 }

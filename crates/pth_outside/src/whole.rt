@@ -1,6 +1,6 @@
 // Reads a file whole.
-ghost use Rattle.std.specs.Prelude.{◌≡◌, ◌≤◌, ℕ, IfOk, IsErrOf, IsTrue, OnOk, None, vec_len};
-ghost use Rattle.pth_outside.specs.Files.{Rose, HasBytes, IsLonger, IsThere, contents};
+ghost use Rattle.std.specs.Prelude.{◌≡◌, ◌≤◌, IfOk, IsErrOf, None, vec_len};
+ghost use Rattle.pth_outside.specs.Files.{ReadsFiles, HasBytes, IsLonger, contents};
 ghost use Rattle.pth_outside.specs.declared.whole.WholeErr.TheVariants.{NoMemory as OutOfMemory};
 
 use crate::{FileErr, Files};
@@ -41,19 +41,13 @@ pub fn read_whole<F: Files>(
     name: &str,
     most: u64,
 ) -> Result<Vec<u8>, WholeErr>
-    ensures ok { IfOk result (λ bytes. HasBytes (F.told files.old) name.now bytes.items) }
+    ensures ok { IfOk result (λ bytes.
+        HasBytes (F.state files.old).told name.now bytes.items) }
     ensures bound { IfOk result (λ bytes. vec_len bytes ≤ most) }
     ensures too_large { IsErrOf result WholeErr.TooLarge →
-        IsLonger (F.told files.old) name.now most }
-    ensures fault { IsErrOf result WholeErr.Fault →
-        Rose (F.faults files.old) (F.faults files.new) }
-    ensures missing { IsErrOf result WholeErr.Fault → IsTrue (F.sure files.old) →
-        contents (F.told files.old) name.now ≡ None }
-
-    // No file changes, whatever the answer.
-    ensures told { F.told files.new ≡ F.told files.old }
-    ensures sure { F.sure files.new ≡ F.sure files.old }
-    ensures later { F.faults files.old ≤ F.faults files.new }
+        IsLonger (F.state files.old).told name.now most }
+    ensures leaves { ReadsFiles (F.state files.old) (F.state files.new)
+        (IsErrOf result WholeErr.Fault) (contents (F.state files.old).told name.now ≡ None) }
 {
     let mut piece = zeros(alloc, PIECE)?;
     let mut bytes = Vec::new(alloc);

@@ -1,13 +1,13 @@
 use Rattle.std.proofs.Common.{◌≤◌, ◌-◌, length}
-use Rattle.pth_outside.proofs.Pieces.{IsKept}
+use Rattle.pth_outside.specs.Files.{ReadsFiles}
 use Rattle.pth_outside.proofs.KeyFileLemmas.{KeysSoFar}
 use Rattle.pth_outside.proofs.key_file.read_keys.Given as goal
 
 abbrev pub invariant-loop-keys : goal.invariant-loop-keys
 invariant-loop-keys g l =
     let files = g.F.Files in
-    IsKept (files.told l.fn.files) (files.told l.files) (files.sure l.fn.files) (files.sure l.files) (files.faults l.fn.files) (files.faults l.files)
-    × KeysSoFar l.fn.name (files.told l.fn.files) l.reader l.keys
+    ReadsFiles (files.state l.fn.files) (files.state l.files) ⊥ ⊥
+    × KeysSoFar l.fn.name (files.state l.fn.files).told l.reader l.keys
     × (length l.keys ≤ l.fn.most)
 
 abbrev pub decreases-loop-keys : goal.decreases-loop-keys

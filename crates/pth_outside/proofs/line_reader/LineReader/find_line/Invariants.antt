@@ -5,8 +5,7 @@ use Rattle.pth_outside.proofs.line_reader.LineReader.find_line.Given as goal
 
 abbrev pub invariant-loop-len : goal.invariant-loop-len
 invariant-loop-len g l =
-    let files = g.F.Files in
-    SearchesOn l.fn.self l.self (files.told l.fn.files) (files.told l.files) (files.sure l.fn.files) (files.sure l.files) (files.faults l.fn.files) (files.faults l.files)
+    SearchesOn l.fn.self l.self (g.F.Files.state l.fn.files) (g.F.Files.state l.files)
 
 abbrev pub decreases-loop-len : goal.decreases-loop-len
 decreases-loop-len g l = LONGEST_KEY + 1 - length l.self.ahead

@@ -5,7 +5,7 @@ use Rattle.pth_outside.proofs.line_reader.LineReader.next_line.Goals as goal
 
 pub returns-in-Ok-clause-step : goal.returns-in-Ok-clause-step
 returns-in-Ok-clause-step g c start =
-    let told = g.F.Files.told c.args.files.now in
+    let told = (g.F.Files.state c.args.files.now).told in
     let next = rw c.in-Some.is at c.in_ok-span.ensures.line in
     subst (λ (r : Reader). IsInStep r told) (sym c.in-Ok.ensures.ok)
     (step_advanced c.find_line.new.self told c.in-Some.span.whole next.within (c.in_ok-span.ensures.step start))
