@@ -1,5 +1,5 @@
 -- The settings: their names, their values and their defaults.
-use Rattle.std.specs.Prelude.{ℕ, List, [], ◌∷◌, codes, bytes_eq, if◌then◌else◌, Option, Some, None, Result, Ok, Err, option_map, unwrap_or, vec_items}
+use Rattle.std.specs.Prelude.{ℕ, List, codes, bytes_eq, if◌then◌else◌, Option, Some, None, Result, Ok, Err, option_map, unwrap_or, vec_items}
 use Rattle.pthash.specs.declared.TheConstants.{MIN_ALPHA, MAX_ALPHA, MIN_C, MAX_C, MAX_KEYS, MAX_PARTITIONS, MAX_PILOTS}
 use Rattle.pthash.specs.declared.Map.{Map}
 use Rattle.pilot_codecs.specs.declared.code.Encoding.{Encoding}

@@ -2,7 +2,7 @@
 use Rattle.std.specs.Prelude.{◌≤◌, ℕ, List, length}
 use Rattle.pthash.specs.declared.TheConstants.{MAX_PARTITIONS, MAX_PILOTS}
 use Rattle.pthash.specs.Shapes.{ShapeData, IsShape}
-use Rattle.bucket_map.specs.declared.sizes.Shape.{Shape}
+use Rattle.bucket_map.specs.ShapeData.{shape_data}
 use Rattle.settings.specs.declared.settings.TheConstants.{MAX_SEEDS, MAX_WORKERS}
 use Rattle.settings.specs.declared.how.How.{How}
 use Rattle.settings.specs.declared.settings.Settings.{Settings}
@@ -27,10 +27,6 @@ pub record AreInRange (s : SettingsData) : Type 0 where
   pub few_pilots : s.limit ≤ MAX_PILOTS
   pub some_worker : 1 ≤ workers_of s.how
   pub few_workers : workers_of s.how ≤ MAX_WORKERS
-
--- a shape as data
-abbrev pub shape_data : Shape → ShapeData
-shape_data shape = record { alpha = shape.alpha; c = shape.c; map = shape.map }
 
 -- settings as data
 abbrev pub settings_data : Settings → SettingsData
