@@ -27,9 +27,14 @@ pub enum Outcome {
         partitions: Vec<Partition>,
     },
     /// The keys at these places are equal.
-    Repeated { first: u64, second: u64 },
+    Repeated {
+        first: u64,
+        second: u64,
+    },
     /// No seed succeeded, each for its cause.
-    Exhausted { causes: Vec<Cause> },
+    Exhausted {
+        causes: Vec<Cause>,
+    },
 }
 
 /// Tries the seeds in their order, until one succeeds or a repeated key is found.

@@ -1,6 +1,6 @@
 use Rattle.std.proofs.Common.{◌-◌, arith, rules}
 use Rattle.pth_top.proofs.Numbered.{none_numbered, one_more_numbered}
-use Rattle.pth_top.proofs.part.by_number.Goals as goal
+use Rattle.pth_top.proofs.partition_pilots.by_number.Goals as goal
 
 pub loop-rank-init : goal.loop-rank-init
 loop-rank-init c =

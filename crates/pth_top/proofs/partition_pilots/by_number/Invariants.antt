@@ -1,6 +1,6 @@
 use Rattle.std.proofs.Common.{◌≡◌, drop}
 use Rattle.pthash.specs.ByBucket.{pilots_by_number}
-use Rattle.pth_top.proofs.part.by_number.Given as goal
+use Rattle.pth_top.proofs.partition_pilots.by_number.Given as goal
 
 abbrev pub invariant-loop-rank : goal.invariant-loop-rank
 invariant-loop-rank l =
