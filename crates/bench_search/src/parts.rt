@@ -2,7 +2,7 @@
 #![tactic(auto)]
 
 use crate::input::{bytes, records};
-use bucket_map::{Buckets, MAX_KEYS, Record, bucket_count, ordered_buckets, table_size};
+use bucket_map::{Buckets, MAX_KEYS, Map, Record, bucket_count, ordered_buckets, table_size};
 use murmur64::{hash_pair, murmur64};
 use pilot_search::{Plan, place};
 use std::alloc::Global;
@@ -66,7 +66,7 @@ fn buckets_of(alloc: Global, records: &[Record]) -> io::Result<Buckets> {
     if n == 0 || n > MAX_KEYS {
         return Err(io::Error::from(io::ErrorKind::InvalidInput));
     }
-    match ordered_buckets(alloc, records, bucket_count(n, BUCKETS)) {
+    match ordered_buckets(alloc, records, Map::Skewed, bucket_count(n, BUCKETS)) {
         Ok(buckets) => Ok(buckets),
         Err(_) => Err(out_of_memory()),
     }
@@ -111,7 +111,7 @@ fn plan_of(alloc: Global, records: &[Record]) -> io::Result<Plan> {
     if n == 0 || n > MAX_KEYS {
         return Err(io::Error::from(io::ErrorKind::InvalidInput));
     }
-    match ordered_buckets(alloc, records, bucket_count(n, BUCKETS)) {
+    match ordered_buckets(alloc, records, Map::Skewed, bucket_count(n, BUCKETS)) {
         Ok(buckets) => Ok(Plan {
             seed: 1,
             size: table_size(n, ALPHA),

@@ -1,5 +1,4 @@
-pub mod TruthValues
+pub mod Words
 pub mod BucketCounts
 pub mod Fitting
 pub mod Steps
-pub mod Reciprocal

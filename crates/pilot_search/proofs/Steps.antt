@@ -1,5 +1,5 @@
 -- How a search goes from one bucket to the next.
-use Rattle.std.proofs.Common.{◌≡◌, ◌≢◌, ℕ, suc, ◌+◌, ◌<◌, ◌≤◌, List, [], length, take, Some, None, Ok, Err, sym, ap, ◌∙◌, add-one, arith, ⊎_elim}
+use Rattle.std.proofs.Common.{◌≡◌, ◌≢◌, Bool, refl, ℕ, suc, ◌+◌, ◌<◌, ◌≤◌, List, [], length, take, Some, None, Ok, Err, sym, ap, ◌∙◌, add-one, arith, ⊎_elim}
 use Rattle.std.specs.Prelude.{slice_set, slice_index, replicate}
 use Rattle.std.proofs.lemmas.Bool.{cases_lt}
 use Rattle.std.proofs.lemmas.List.{take_more_set, take_all, length-set, length-replicate, get_or-set_other, get_or-replicate, get_or_past}
@@ -25,11 +25,28 @@ started plan pilots table zeros none size = record {
   size = size;
 }
 
+-- what a bucket of a plan is searched with
+pub record IsTask (plan : SearchPlan) (rank seed size limit : ℕ) (members : List ℕ) : Type 0 where
+  pub same_seed : seed ≡ plan.seed
+  pub same_size : size ≡ plan.size
+  pub same_limit : limit ≡ plan.limit
+  pub same_members : members ≡ (bucket_at plan.buckets rank).members
+
+-- the pilot of such a bucket
+pub task_pilot : (plan : SearchPlan) (rank seed size limit : ℕ) (members : List ℕ) (taken : ℕ → Bool) → IsTask plan rank seed size limit members
+    → pilot_of plan.seed plan.size plan.limit taken (bucket_at plan.buckets rank).members ≡ pilot_of seed size limit taken members
+task_pilot plan rank seed size limit members taken task = rw (task.same_seed, task.same_size, task.same_limit, task.same_members) refl
+
+-- its positions
+pub task_positions : (plan : SearchPlan) (rank seed size limit : ℕ) (members : List ℕ) (k : ℕ) → IsTask plan rank seed size limit members
+    → positions_of seed size members k ≡ positions_of plan.seed plan.size (bucket_at plan.buckets rank).members k
+task_positions plan rank seed size limit members k task = rw (task.same_seed, task.same_size, task.same_members) refl
+
 -- after one more bucket, which has this pilot
 pub placed_more : (plan : SearchPlan) (rank k : ℕ) (pilots : List ℕ) (table after : Table) → rank < length plan.buckets → IsSearchedTo plan rank pilots table
-    → pilot_of plan (contains table.taken) (bucket_at plan.buckets rank).members ≡ Some k
+    → pilot_of plan.seed plan.size plan.limit (contains table.taken) (bucket_at plan.buckets rank).members ≡ Some k
     → after.size ≡ table.size
-    → after.taken ≡ union table.taken (from_list (positions_of plan (bucket_at plan.buckets rank).members k))
+    → after.taken ≡ union table.taken (from_list (positions_of plan.seed plan.size (bucket_at plan.buckets rank).members k))
     → IsSearchedTo plan (rank + 1) (slice_set pilots rank k) after
 unfolding prefix_of
 placed_more plan rank k pilots table after known so_far found size gained =
@@ -39,7 +56,7 @@ placed_more plan rank k pilots table after known so_far found size gained =
           rw add-one
           (ap (after_bucket plan rank) so_far.state
           ∙ ap (with_pilot plan rank (record { pilots = take rank pilots; taken = table.taken })) found
-          ∙ ap (λ ps. Ok (record { pilots = ps; taken = union table.taken (from_list (positions_of plan (bucket_at plan.buckets rank).members k)) })) (sym (ap (λ n. take n (slice_set pilots rank k)) (sym (add-one rank)) ∙ take_more_set pilots rank k in_range))
+          ∙ ap (λ ps. Ok (record { pilots = ps; taken = union table.taken (from_list (positions_of plan.seed plan.size (bucket_at plan.buckets rank).members k)) })) (sym (ap (λ n. take n (slice_set pilots rank k)) (sym (add-one rank)) ∙ take_more_set pilots rank k in_range))
           ∙ ap (λ t. Ok (record { pilots = take (suc rank) (slice_set pilots rank k); taken = t })) (sym gained));
       one_number_a_rank = length-set pilots rank k ∙ so_far.one_number_a_rank;
       no_pilot_yet = λ later beyond.
@@ -50,7 +67,7 @@ placed_more plan rank k pilots table after known so_far found size gained =
 
 -- a bucket without a pilot stops the search at its rank
 pub stuck_here : (plan : SearchPlan) (rank : ℕ) (pilots : List ℕ) (table : Table) → rank < length plan.buckets → IsSearchedTo plan rank pilots table
-    → pilot_of plan (contains table.taken) (bucket_at plan.buckets rank).members ≡ None → search_of plan ≡ Err rank
+    → pilot_of plan.seed plan.size plan.limit (contains table.taken) (bucket_at plan.buckets rank).members ≡ None → search_of plan ≡ Err rank
 unfolding prefix_of
 stuck_here plan rank pilots table known so_far none =
     let here : prefix_of plan (suc rank) ≡ Err rank =

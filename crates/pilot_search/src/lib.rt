@@ -1,7 +1,7 @@
 //! The search for pilots of PTHash (Pibiri and Trani, SIGIR 2021), one bucket after another.
 #![tactic(auto)]
 
-mod divisor;
+mod bits;
 mod occupancy;
 mod pilot;
 mod placing;

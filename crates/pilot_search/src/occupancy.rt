@@ -1,9 +1,11 @@
-#![tactic(auto)]
+// Which positions of a table are taken: a bit for each.
 
 ghost use Rattle.std.specs.Prelude.{◌≡◌, ◌<◌, ◌≤◌, true, nat_lt, IfOk};
 ghost use Rattle.std.specs.List.{list_all};
 ghost use Rattle.std.specs.FinSet as set;
+ghost use Rattle.pthash.specs.declared.TheConstants.{MAX_POSITIONS};
 
+use crate::bits::{is_set, set_bit};
 use bucket_map::NoMemory;
 use std::alloc::Global;
 use std::marker::Model;
@@ -11,41 +13,48 @@ use std::marker::Model;
 /// Which positions of a table are taken.
 #[derive(Drop)]
 pub struct Occupancy {
-    taken: Vec<bool>,
+    words: Vec<u64>,
+    size: u64,
     count: u64,
 }
 
 impl Model for Occupancy {
-    ghost use Rattle.std.specs.Prelude.{◌≡◌};
-    ghost use Rattle.std.specs.Prelude.{length};
-    ghost use Rattle.std.specs.FinSet as set;
-    ghost use Rattle.pilot_search.specs.Table.{Table, table_code, set_of};
+    ghost use Rattle.word_bits.specs.Bits.{is_set};
+    ghost use Rattle.pthash.specs.Search.{set_of};
+    ghost use Rattle.pilot_search.specs.Table.{Table, IsTable, table_code};
 
     ghost Value = { Table };
 
     ghost coded = { table_code };
 
-    ghost view = { λ a. record { size = length a.taken.items; taken = set_of a.taken.items } };
+    ghost view = { λ a. record { size = a.size; taken = set_of a.size (is_set a.words.items 0) } };
 
-    ghost invariant = { λ a. a.count ≡ set.len (set_of a.taken.items) };
+    ghost invariant = { λ a. IsTable a.words.items a.size a.count };
 }
 
 impl Occupancy {
-    // A table of this size with no position taken.
-    pub(crate) fn new(alloc: Global, size: u64) -> Result<Self, NoMemory>
+    /// A table of this size with no position taken.
+    pub fn new(alloc: Global, size: u64) -> Result<Self, NoMemory>
+        requires some { 1 ≤ size }
+        requires bound { size ≤ MAX_POSITIONS }
         ensures size { IfOk result (λ table. table.size ≡ size) }
         ensures taken { IfOk result (λ table. table.taken ≡ set.empty) }
     {
-        let taken = vec![in alloc; false; size as usize]?;
-        Ok(Self { taken, count: 0 })
+        let words = vec![in alloc; 0; (size / 64 + 1) as usize]?;
+        Ok(Self {
+            words,
+            size,
+            count: 0,
+        })
     }
 
     /// The number of positions, taken or not.
     #[inline]
     pub fn size(&self) -> u64
-        ensures { result ≡ self.now.size }
+        ensures value { result ≡ self.now.size }
+        ensures positive { 1 ≤ result }
     {
-        self.taken.len() as u64
+        self.size
     }
 
     /// How many positions are taken.
@@ -62,7 +71,7 @@ impl Occupancy {
         requires { position < self.now.size }
         ensures { result ≡ set.contains self.now.taken position }
     {
-        self.taken[position as usize]
+        is_set(&self.words, position)
     }
 
     // Takes a position, which may be taken already.
@@ -72,9 +81,8 @@ impl Occupancy {
         ensures size { self.new.size ≡ self.old.size }
         ensures taken { self.new.taken ≡ set.insert self.old.taken position }
     {
-        let value = &mut self.taken[position as usize];
-        if !*value {
-            *value = true;
+        if !is_set(&self.words, position) {
+            set_bit(&mut self.words, position);
             self.count += 1;
         }
     }

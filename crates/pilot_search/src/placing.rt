@@ -1,4 +1,4 @@
-#![tactic(auto)]
+// One bucket after another gets its pilot.
 
 ghost use Rattle.std.specs.Prelude.{◌≡◌, ◌+◌, ◌<◌, ◌≤◌, length, OnOk, IfOk, IfErr};
 ghost use Rattle.std.specs.FinSet as set;
@@ -7,12 +7,12 @@ ghost use Rattle.pthash.specs.Search.{fits, pilot_fits};
 ghost use Rattle.pthash.specs.Least.{FailsBelow};
 ghost use Rattle.pilot_search.specs.Outcome.{IsSearchedTo, IsPlacedSoFar, IsPlaced, IsStuckAt};
 
-use crate::divisor::Divisor;
 use crate::occupancy::Occupancy;
 use crate::pilot::find_pilot;
 use crate::plan::Plan;
 use crate::scratch::Scratch;
 use bucket_map::NoMemory;
+use divisor::Divisor;
 use std::alloc::Global;
 
 /// What a search has placed: the pilots by rank, of which the first `done` are found, and the positions taken.
@@ -59,14 +59,23 @@ fn place_bucket(
     requires rank { rank < length plan.now.buckets }
     requires room { most_members plan.now.buckets ≤ length positions.old }
     requires so_far { IsSearchedTo plan.now rank pilots.old occupied.old }
-    requires divisor { size.now.value ≡ plan.now.size }
+    requires divisor { size.now ≡ plan.now.size }
     requires no_lower { let members = (bucket_at plan.now.buckets rank).members in
-        FailsBelow (pilot_fits plan.now (set.contains occupied.old.taken) members) first }
+        let fit = pilot_fits plan.now.seed size.now (set.contains occupied.old.taken) in
+        FailsBelow (fit members) first }
     ensures placed { OnOk result (IsSearchedTo plan.now (rank + 1) pilots.new occupied.new) }
     ensures stuck { IfErr result (λ stuck. IsStuckAt plan.now stuck) }
 {
     let members = plan.members(rank);
-    match find_pilot(plan, members, first, size, occupied, positions) {
+    match find_pilot(
+        members,
+        first,
+        plan.seed(),
+        plan.limit(),
+        size,
+        occupied,
+        positions,
+    ) {
         Some(pilot) => {
             pilots[rank as usize] = pilot;
             occupied.take_all(&positions[..members.len()]);

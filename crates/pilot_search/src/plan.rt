@@ -1,4 +1,4 @@
-#![tactic(auto)]
+// What a search is given.
 
 ghost use Rattle.std.specs.Prelude.{◌≡◌, ◌<◌, ◌≤◌, ◌^◌, length};
 ghost use Rattle.pthash.specs.Order.{bucket_at, most_members};

@@ -1,4 +1,4 @@
-#![tactic(auto)]
+// The room that a search needs.
 
 ghost use Rattle.std.specs.Prelude.{◌≡◌, ◌≤◌, IfOk};
 ghost use Rattle.pthash.specs.Order.{most_members};

@@ -1,5 +1,5 @@
 use super::*;
-use bucket_map::{Record, ordered_buckets};
+use bucket_map::{Map, Record, ordered_buckets};
 use std::test::Fail;
 
 // The seed at which pilot 0 has the hash 0, so that a position is a second hash modulo the size.
@@ -29,7 +29,7 @@ fn searches_end_as_worked_by_hand(rt: HostRuntime) -> Result<(), Fail> {
             seed: SEED_OF_ZERO,
             size: SIZE,
             limit: 1,
-            buckets: ordered_buckets(rt.alloc(), records, 7)?,
+            buckets: ordered_buckets(rt.alloc(), records, Map::Skewed, 7)?,
         };
         match (place(rt.alloc(), &plan)?, outcome) {
             (Ok(found), Ok((pilots, positions))) => {

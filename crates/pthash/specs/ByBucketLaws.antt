@@ -1,5 +1,5 @@
 -- How the pilots by bucket number are built up, one bucket after another from the last rank on.
-use Rattle.std.specs.Prelude.{◌≡◌, ℕ, ◌+◌, ◌-◌, ◌<◌, ◌≤◌, Bool, true, false, cond, ◌==◌, List, [], ◌∷◌, length, map, replicate, slice_index, slice_set}
+use Rattle.std.specs.Prelude.{◌≡◌, ℕ, ◌<◌, true, false, cond, ◌==◌, List, [], ◌∷◌, length, replicate, slice_index, slice_set}
 use Rattle.std.proofs.Common.{refl, sym, ap, ◌∙◌, arith, length-set, get_or-set_other, get_or-set_same}
 use Rattle.std.proofs.lemmas.Bool.{eqb-true, eqb-false}
 use Rattle.std.proofs.lemmas.Grind.{same_number_lists}
@@ -35,17 +35,19 @@ pub pilots_by_number-cons : (bucket : Bucket) (buckets : List Bucket) (pilot : �
     → pilots_by_number (bucket ∷ buckets) (pilot ∷ pilots) m ≡ slice_set (pilots_by_number buckets pilots m) bucket.number pilot
 pilots_by_number-cons bucket buckets pilot pilots m within =
     let others : List ℕ = pilots_by_number buckets pilots m in
+    let set_others : List ℕ = slice_set others bucket.number pilot in
     let count : length others ≡ m = length-pilots_by_number buckets pilots m in
     let place : bucket.number < length others = omega arith in
-    same_number_lists (pilots_by_number (bucket ∷ buckets) (pilot ∷ pilots) m) (slice_set others bucket.number pilot)
+    same_number_lists (pilots_by_number (bucket ∷ buckets) (pilot ∷ pilots) m) set_others
     (length-pilots_by_number (bucket ∷ buckets) (pilot ∷ pilots) m ∙ sym (length-set others bucket.number pilot ∙ count))
     (λ k in_range.
     let below : k < m = omega (arith, length-pilots_by_number (bucket ∷ buckets) (pilot ∷ pilots) m) in
     get_or-pilots_by_number (bucket ∷ buckets) (pilot ∷ pilots) m k below
-    ∙ elim (bucket.number == k) as (λ b. (bucket.number == k) ≡ b → cond b pilot (pilot_by_number buckets pilots k) ≡ slice_index (slice_set others bucket.number pilot) k) [
+    ∙ elim (bucket.number == k) as (λ b. (bucket.number == k) ≡ b → cond b pilot (pilot_by_number buckets pilots k) ≡ slice_index set_others k) [
       | true ↦ λ same.
           let here : bucket.number ≡ k = eqb-true bucket.number k same in
           sym (rw (← here) (get_or-set_same others bucket.number pilot 0 place))
       | false ↦ λ other.
-          sym (get_or-set_other others bucket.number k pilot 0 (λ e. eqb-false bucket.number k other (sym e)) ∙ get_or-pilots_by_number buckets pilots m k below)
+          sym (get_or-set_other others bucket.number k pilot 0 (λ e. eqb-false bucket.number k other (sym e))
+          ∙ get_or-pilots_by_number buckets pilots m k below)
     ] refl)

@@ -8,7 +8,11 @@ pub mod Partitions
 pub mod OrderLaws
 pub mod Search
 pub mod Least
+pub mod Apart
+pub mod ApartCounts
 pub mod SearchLaws
+pub mod PositionLaws
+pub mod PrefixLaws
 pub mod ByBucket
 pub mod ByBucketLaws
 pub mod Examples

@@ -11,13 +11,12 @@ returns-then-is_fit-clause-pilot c =
     let taken = contains c.args.occupied.now.taken in
     let members : List ℕ = c.args.members.now in
     let pilot : ℕ = c.loop-pilot.pilot in
-    let passes : pilot_fits c.args.plan.now taken members pilot ≡ true =
-    ap (λ s. fits taken (positions_under (pilot_hash pilot c.args.plan.now.seed) s members)) (sym c.requires.size)
-    ∙ ap (λ s. fits taken (positions_under (pilot_hash pilot s) c.args.occupied.now.size members)) (sym c.seed-seed.ensures.value)
+    let passes : pilot_fits c.args.seed c.args.size.now taken members pilot ≡ true =
+    ap (λ s. fits taken (positions_under (pilot_hash pilot c.args.seed) s members)) c.requires.divisor
     ∙ ap (λ h. fits taken (positions_under h c.args.occupied.now.size members)) (sym c.pilot_hash.ensures)
     ∙ sym c.is_fit.ensures.fits ∙ c.if-is_fit.true in
-    sym (least_below-found (pilot_fits c.args.plan.now taken members) c.args.plan.now.limit pilot (record { below = omega (arith, c.limit-pilot-end.ensures.value); passes = passes; first = c.loop-pilot.invariant.fails }))
+    sym (least_below-found (pilot_fits c.args.seed c.args.size.now taken members) c.args.limit pilot (record { below = omega arith; passes = passes; first = c.loop-pilot.invariant.fails }))
 
 pub returns-clause-pilot : goal.returns-clause-pilot
 returns-clause-pilot c =
-    sym (least_below-none (pilot_fits c.args.plan.now (contains c.args.occupied.now.taken) c.args.members.now) c.args.plan.now.limit (λ j below. c.loop-pilot.invariant.fails j (omega arith)))
+    sym (least_below-none (pilot_fits c.args.seed c.args.size.now (contains c.args.occupied.now.taken) c.args.members.now) c.args.limit (λ j below. c.loop-pilot.invariant.fails j (omega arith)))

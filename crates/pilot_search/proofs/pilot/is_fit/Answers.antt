@@ -20,7 +20,7 @@ returns-then-contains-clause-fits c =
     let in_range : i < length places = omega (arith, length-positions_under c.args.hash size members) in
     let here : get_or places i 0 ≡ p =
     get_or-positions_under c.args.hash size members i (omega arith)
-    ∙ ap (λ s. bit_xor (get_or members i 0) c.args.hash % s) (sym c.requires.size) ∙ sym c.remainder-position.ensures in
+    ∙ ap (λ s. bit_xor (get_or members i 0) c.args.hash % s) (sym c.requires.size) ∙ sym c.remainder-position.ensures.value in
     elim c.then-contains.branch [
       | then-contains-via-then-contains w ↦
           let known : taken p ≡ true = sym c.contains.ensures ∙ w.if-contains.true in
@@ -42,7 +42,7 @@ loop-i-preserved c =
     let in_range : i < length places = omega (arith, length-positions_under c.args.hash size members) in
     let here : get_or places i 0 ≡ p =
     get_or-positions_under c.args.hash size members i (omega arith)
-    ∙ ap (λ s. bit_xor (get_or members i 0) c.args.hash % s) (sym c.requires.size) ∙ sym c.remainder-position.ensures in
+    ∙ ap (λ s. bit_xor (get_or members i 0) c.args.hash % s) (sym c.requires.size) ∙ sym c.remainder-position.ensures.value in
     let free : taken p ≡ false = sym c.contains.ensures ∙ c.if-contains.false in
     let new : is_among (take i places) p ≡ false =
     ap (λ ps. is_among ps p) (sym c.loop-i.invariant.places) ∙ sym c.contains-else-contains.ensures.value ∙ c.if-contains-2.false in

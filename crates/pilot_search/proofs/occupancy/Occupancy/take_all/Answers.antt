@@ -1,7 +1,7 @@
 use Rattle.std.proofs.Common.{take, get_or, refl, sym, ap, ◌∙◌, arith}
 use Rattle.std.proofs.lemmas.List.{take_more}
 use Rattle.std.specs.FinSet as set
-use Rattle.pilot_search.proofs.TruthValues.{union-none, union-next}
+use Rattle.pthash.specs.PositionLaws.{union-none, union-next}
 use Rattle.pilot_search.proofs.occupancy.Occupancy.take_all.Goals as goal
 
 pub loop-position-init : goal.loop-position-init

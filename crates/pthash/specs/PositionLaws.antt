@@ -1,19 +1,20 @@
--- A list of truth values, seen as the set of the positions at which it is true.
-use Rattle.std.proofs.Common.{◌≡◌, ℕ, zero, suc, ◌+◌, ◌<◌, ◌≤◌, Bool, true, false, ◌&&◌, ◌||◌, cond, List, [], ◌∷◌, ◌++◌, length, get_or, refl, sym, ap, ◌∙◌, subst, arith, ⊎_elim}
-use Rattle.std.specs.Prelude.{nat_lt, nat_eq, filter, replicate, slice_set}
-use Rattle.std.specs.List.{list_any}
+-- Sets of positions of a table: what they hold, and how they gain a position.
+use Rattle.std.specs.Prelude.{◌≡◌, ℕ, zero, suc, ◌+◌, ◌<◌, ◌≤◌, Bool, true, false, ◌&&◌, ◌||◌, cond, nat_lt, nat_eq, List, [], ◌∷◌, ◌++◌, length, filter, bit_xor}
+use Rattle.std.specs.List.{list_any, list_all}
 use Rattle.std.specs.Ordering.{nat_cmp}
 use Rattle.std.specs.Cmp.{nat_cmp_total, unsigned_tied}
 use Rattle.std.specs.FinSet.{empty, contains, insert, union, from_list, len, contains-empty, contains-insert, contains-union, contains-from_list_nat, len-empty, len-insert, same_set, nat_cmp-IsAntisymmetric}
+use Rattle.std.proofs.Common.{refl, sym, ap, ◌∙◌, subst, arith, ⊎_elim}
 use Rattle.std.proofs.Math.Bool.{or-false}
-use Rattle.std.proofs.lemmas.Bool.{cases_eq, cases_lt, lt-ltb, le-ltb, eq-eqb, ne_eqb}
-use Rattle.std.proofs.lemmas.List.{get_or_past, get_or-replicate, length-replicate, get_or-set_same, get_or-set_other, length-append}
+use Rattle.std.proofs.Math.Nat.{mod-lt}
+use Rattle.std.proofs.lemmas.Bool.{and_from, cases_eq, cases_lt, lt-ltb, le-ltb, eq-eqb, ne_eqb}
 use Rattle.std.proofs.lemmas.List.Elements.{filter-append}
 use Rattle.std.proofs.lemmas.List.Folds.{list_any-append}
 use Rattle.std.proofs.lemmas.List.Sums.{length-filter, count_by-le-length}
+use Rattle.pthash.specs.Hash.{pilot_hash}
 use Rattle.pthash.specs.Order.{numbers_below}
-use Rattle.pthash.specs.Search.{Positions}
-use Rattle.pilot_search.specs.Table.{set_of}
+use Rattle.pthash.specs.OrderLaws.{length-numbers_below}
+use Rattle.pthash.specs.Search.{Positions, set_of, position_of, positions_of}
 
 kept_same : (test : ℕ → Bool) (n : ℕ) → list_any (λ y. nat_eq y n) (filter test (n ∷ [])) ≡ test n
 kept_same test n =
@@ -47,40 +48,54 @@ among_below test (suc n) q =
     ∙ ap (λ b. b || list_any (λ y. nat_eq y q) (filter test (n ∷ []))) (among_below test n q)
     ∙ one_more test n q
 
-pub contains-set_of : (values : List Bool) (q : ℕ) → contains (set_of values) q ≡ get_or values q false
+-- the set holds what is below the size and passes
+pub contains-set_of : (size : ℕ) (test : ℕ → Bool) (q : ℕ) → contains (set_of size test) q ≡ (nat_lt q size && test q)
 unfolding set_of
-contains-set_of values q =
-    contains-from_list_nat (filter (λ p. get_or values p false) (numbers_below (length values))) q
-    ∙ among_below (λ p. get_or values p false) (length values) q
-    ∙ ⊎_elim
-    (λ (lower : q < length values). rw (lt-ltb q (length values) lower) refl)
-    (λ (higher : length values ≤ q). rw (le-ltb q (length values) higher) (sym (get_or_past values q false higher)))
-    (cases_lt q (length values))
+contains-set_of size test q = contains-from_list_nat (filter test (numbers_below size)) q ∙ among_below test size q
+
+-- below the size it is the test
+pub contains-set_of_below : (size : ℕ) (test : ℕ → Bool) (q : ℕ) → q < size → contains (set_of size test) q ≡ test q
+contains-set_of_below size test q below = contains-set_of size test q ∙ ap (λ b. b && test q) (lt-ltb q size below)
 
 -- what a set holds that gained one position
 pub contains-insert_nat : (s : Positions) (p q : ℕ) → contains (insert s p) q ≡ (nat_eq q p || contains s q)
 contains-insert_nat s p q = contains-insert nat_cmp_total s p q ∙ ap (λ b. b || contains s q) (unsigned_tied q p)
 
+-- the positions of members are in the table
+pub positions_below : (seed size : ℕ) (members : List ℕ) (k : ℕ) → 1 ≤ size → list_all (λ p. nat_lt p size) (positions_of seed size members k) ≡ true
+positions_below seed size [] k room = refl
+positions_below seed size (b ∷ bs) k room =
+    and_from (nat_lt (position_of seed size k b) size) (list_all (λ p. nat_lt p size) (positions_of seed size bs k))
+    (lt-ltb (position_of seed size k b) size (mod-lt (bit_xor b (pilot_hash k seed)) {m = size} room))
+    (positions_below seed size bs k room)
+
 -- two sets of positions that hold the same are equal
 pub same_positions : (s t : Positions) → ((q : ℕ) → contains s q ≡ contains t q) → s ≡ t
 same_positions s t = same_set nat_cmp_total nat_cmp-IsAntisymmetric s t
 
-written_at : (values : List Bool) (p q : ℕ) → p < length values → get_or (slice_set values p true) q false ≡ (nat_eq q p || get_or values q false)
-written_at values p q in_range =
-    ⊎_elim
-    (λ (same : p ≡ q).
-    let P : ℕ → Type 0 = λ k. get_or (slice_set values p true) k false ≡ (nat_eq k p || get_or values k false) in
-    subst P same (rw (eq-eqb p p refl) (get_or-set_same values p true false in_range)))
-    (λ (other : p ≡ q → ⊥).
-    let apart : q ≡ p → ⊥ = λ e. other (sym e) in
-    rw (ne_eqb q p apart) (get_or-set_other values p q true false apart))
-    (cases_eq p q)
+-- where one more position passes, the set gains it
+pub set_of-one_more : (size : ℕ) (test more : ℕ → Bool) (p : ℕ) → p < size → ((q : ℕ) → more q ≡ (nat_eq q p || test q)) → set_of size more ≡ insert (set_of size test) p
+set_of-one_more size test more p in_range gained =
+    same_positions (set_of size more) (insert (set_of size test) p) (λ q.
+    contains-set_of size more q
+    ∙ ⊎_elim
+    (λ (lower : q < size). rw (lt-ltb q size lower) (gained q ∙ ap (λ b. nat_eq q p || b) (sym (contains-set_of_below size test q lower))))
+    (λ (higher : size ≤ q).
+    let apart : q ≡ p → ⊥ = λ e. absurd (omega arith) in
+    rw (le-ltb q size higher) (sym (ap (λ b. nat_eq q p || b) (contains-set_of size test q) ∙ rw (ne_eqb q p apart, le-ltb q size higher) refl)))
+    (cases_lt q size)
+    ∙ sym (contains-insert_nat (set_of size test) p q))
 
-pub set_of-slice_set : (values : List Bool) (p : ℕ) → p < length values → set_of (slice_set values p true) ≡ insert (set_of values) p
-set_of-slice_set values p in_range =
-    same_positions (set_of (slice_set values p true)) (insert (set_of values) p) (λ q.
-    contains-set_of (slice_set values p true) q ∙ written_at values p q in_range
-    ∙ ap (λ b. nat_eq q p || b) (sym (contains-set_of values q)) ∙ sym (contains-insert_nat (set_of values) p q))
+-- where no position passes, the set is empty
+pub set_of-none : (size : ℕ) (test : ℕ → Bool) → ((q : ℕ) → q < size → test q ≡ false) → set_of size test ≡ empty
+set_of-none size test none =
+    same_positions (set_of size test) empty (λ q.
+    contains-set_of size test q
+    ∙ ⊎_elim
+    (λ (lower : q < size). rw (lt-ltb q size lower) (none q lower))
+    (λ (higher : size ≤ q). rw (le-ltb q size higher) refl)
+    (cases_lt q size)
+    ∙ sym (contains-empty nat_cmp q))
 
 -- a position that is in a set already adds nothing
 pub insert_known : (s : Positions) (p : ℕ) → contains s p ≡ true → insert s p ≡ s
@@ -92,37 +107,23 @@ insert_known s p known =
     (λ (other : q ≡ p → ⊥). rw (ne_eqb q p other) refl)
     (cases_eq q p))
 
-pub set_of-replicate : (n : ℕ) → set_of (replicate n false) ≡ empty
-set_of-replicate n =
-    same_positions (set_of (replicate n false)) empty (λ q.
-    contains-set_of (replicate n false) q
-    ∙ ⊎_elim
-    (λ (lower : q < n). get_or-replicate n q false false lower)
-    (λ (higher : n ≤ q). get_or_past (replicate n false) q false (omega (arith, length-replicate n false)))
-    (cases_lt q n)
-    ∙ sym (contains-empty nat_cmp q))
-
 len-one_more : (s : Positions) (p n : ℕ) → len s ≤ n → len (insert s p) ≤ n + 1
 len-one_more s p n bound =
     let e = len-insert nat_cmp_total s p in
     rw e (elim (contains s p) as (λ b. cond b (len s) (len s + 1) ≤ n + 1) [ true ↦ omega arith | false ↦ omega arith ])
 
+-- a set has at most as many positions as the list that it was made from
 pub len-from_list : (ps : List ℕ) → len (from_list {R = nat_cmp} ps) ≤ length ps
 len-from_list [] = omega (arith, len-empty nat_cmp)
 len-from_list (p ∷ ps) = omega (arith, len-one_more (from_list ps) p (length ps) (len-from_list ps))
 
-length-numbers_below : (n : ℕ) → length (numbers_below n) ≡ n
-unfolding numbers_below
-length-numbers_below zero = refl
-length-numbers_below (suc n) = length-append (numbers_below n) (n ∷ []) ∙ omega (arith, length-numbers_below n)
-
--- no more positions are true than there are
-pub len-set_of : (values : List Bool) → len (set_of values) ≤ length values
+-- the set has at most as many positions as the size
+pub len-set_of : (size : ℕ) (test : ℕ → Bool) → len (set_of size test) ≤ size
 unfolding set_of
-len-set_of values =
-    let test : ℕ → Bool = λ p. get_or values p false in
-    omega (arith, len-from_list (filter test (numbers_below (length values))), length-filter test (numbers_below (length values)), count_by-le-length test (numbers_below (length values)), length-numbers_below (length values))
+len-set_of size test =
+    omega (arith, len-from_list (filter test (numbers_below size)), length-filter test (numbers_below size), count_by-le-length test (numbers_below size), length-numbers_below size)
 
+-- a new position is one more
 pub len-insert_new : (s : Positions) (p : ℕ) → contains s p ≡ false → len (insert s p) ≡ len s + 1
 len-insert_new s p new = len-insert nat_cmp_total s p ∙ rw new refl
 
@@ -152,6 +153,7 @@ union-next s ps p =
         (λ (other : p ≡ q → ⊥). let apart : q ≡ p → ⊥ = λ e. other (sym e) in rw (ne_eqb q p apart, ne_eqb p q other) refl)
         (cases_eq p q)
 
+-- no positions add nothing
 pub union-none : (s : Positions) → union s (from_list []) ≡ s
 union-none s =
     same_positions (union s (from_list [])) s (λ q.
