@@ -3,8 +3,8 @@ use Rattle.std.proofs.Common.{◌≡◌, ℕ, List, Option, Some, None, Ok, Err,
 use Rattle.std.specs.Prelude.{option_map, option_and_then, ok_or}
 use Rattle.command_words.specs.declared.kinds.TheConstants.{RANGE}
 use Rattle.command_words.specs.declared.values.TheConstants.{DASH}
-use Rattle.command_words.specs.declared.options.Code.{Code}
-use Rattle.command_words.specs.declared.options.Encoding.{Encoding}
+use Rattle.pilot_codecs.specs.declared.code.Code.{Code}
+use Rattle.pilot_codecs.specs.declared.code.Encoding.{Encoding}
 use Rattle.command_words.specs.Values.{code_of, cut_at, one_code, two_codes, encoding_of, encoding_in}
 
 -- a text with no dash names one code

@@ -4,14 +4,17 @@ use Rattle.std.specs.Prelude.{◌==◌, nat_le, option_map, option_and_then, unw
 use Rattle.std.specs.List.{slice_split}
 use Rattle.std.proofs.lemmas.Bool.Decides.{nat_tests}
 use Rattle.std.proofs.lemmas.List.Splits.{length-slice_split}
+use Rattle.pthash.specs.declared.TheConstants.{MIN_ALPHA, MAX_ALPHA, MIN_C, MAX_C, MAX_KEYS, MAX_PARTITIONS, MAX_PILOTS}
+use Rattle.settings.specs.declared.settings.TheConstants as limits
+use Rattle.settings.specs.Workers.{workers_of}
 use Rattle.command_words.specs.declared.kinds.TheConstants.{RANGE}
-use Rattle.command_words.specs.declared.number.TheConstants.{COMMA, MOST_SEEDS}
-use Rattle.command_words.specs.declared.chosen.TheConstants.{EQUALS}
+use Rattle.command_words.specs.declared.number.TheConstants.{COMMA}
+use Rattle.command_words.specs.declared.chosen.TheConstants.{EQUALS, DEFAULT_SEARCH}
 use Rattle.command_words.specs.declared.setting.Setting.{Setting}
 use Rattle.command_words.specs.declared.setting.Setting.TheVariants as setting
 use Rattle.command_words.specs.declared.values.Search as search
 use Rattle.command_words.specs.declared.values.Search.TheVariants.{Turns, Rounds}
-use Rattle.command_words.specs.Options.{IsInRange, workers_of}
+use Rattle.command_words.specs.Options.{IsInRange}
 use Rattle.command_words.specs.Settings.{Given, nothing_given, put, setting_of, with_value, with_named, with_parts, with_word, how_of, options_of}
 use Rattle.command_words.specs.Values.{number_of, number_in, between, numbers_of, few_seeds, seeds_in, cut_at}
 use Rattle.command_words.specs.Words.{given_by, after_word}
@@ -55,15 +58,15 @@ length-numbers_of (text ∷ texts) ns is =
     ] is
 
 few_seeds-ok : (r : Option (List ℕ)) (seeds : List ℕ) → few_seeds r ≡ Ok seeds →
-    (r ≡ Some seeds) × (length seeds ≤ MOST_SEEDS)
+    (r ≡ Some seeds) × (length seeds ≤ limits.MAX_SEEDS)
 few_seeds-ok None seeds is = cc
 few_seeds-ok (Some ns) seeds is =
-    elim (nat_le (length ns) MOST_SEEDS) as (λ b. nat_le (length ns) MOST_SEEDS ≡ b → cond b (Ok ns) (Err RANGE) ≡ Ok seeds → (Some ns ≡ Some seeds) × (length seeds ≤ MOST_SEEDS)) [
-      | true ↦ λ few e. let same : ns ≡ seeds = cc in (ap Some same, subst (λ s. length s ≤ MOST_SEEDS) same (grind (arith, nat_tests)))
+    elim (nat_le (length ns) limits.MAX_SEEDS) as (λ b. nat_le (length ns) limits.MAX_SEEDS ≡ b → cond b (Ok ns) (Err RANGE) ≡ Ok seeds → (Some ns ≡ Some seeds) × (length seeds ≤ limits.MAX_SEEDS)) [
+      | true ↦ λ few e. let same : ns ≡ seeds = cc in (ap Some same, subst (λ s. length s ≤ limits.MAX_SEEDS) same (grind (arith, nat_tests)))
       | false ↦ λ few e. cc
     ] refl is
 
-seeds_in-ok : (text seeds : List ℕ) → seeds_in text ≡ Ok seeds → (1 ≤ length seeds) × (length seeds ≤ 16)
+seeds_in-ok : (text seeds : List ℕ) → seeds_in text ≡ Ok seeds → (1 ≤ length seeds) × (length seeds ≤ limits.MAX_SEEDS)
 unfolding seeds_in
 seeds_in-ok text seeds is =
     let few = few_seeds-ok (numbers_of (slice_split (λ b. b == COMMA) text)) seeds is in
@@ -90,44 +93,47 @@ with_value-in_range setting.Seeds text g next h is =
     let r = seeds_in-ok text p.0 p.1 in
     subst (λ g. IsInRange (options_of g)) p.2 (assumption (h, r))
 with_value-in_range setting.Alpha text g next h is =
-    let p = put-ok g.alpha (number_in 50 100 text) _ next is in
-    let r = number_in-ok 50 100 p.0 text p.1 in
+    let p = put-ok g.alpha (number_in MIN_ALPHA MAX_ALPHA text) _ next is in
+    let r = number_in-ok MIN_ALPHA MAX_ALPHA p.0 text p.1 in
     subst (λ g. IsInRange (options_of g)) p.2 (assumption (h, r))
 with_value-in_range setting.C text g next h is =
-    let p = put-ok g.c (number_in 100 1500 text) _ next is in
-    let r = number_in-ok 100 1500 p.0 text p.1 in
+    let p = put-ok g.c (number_in MIN_C MAX_C text) _ next is in
+    let r = number_in-ok MIN_C MAX_C p.0 text p.1 in
     subst (λ g. IsInRange (options_of g)) p.2 (assumption (h, r))
+with_value-in_range setting.Map text g next h is =
+    let p = put-ok g.map _ _ next is in
+    subst (λ g. IsInRange (options_of g)) p.2 (assumption h)
 with_value-in_range setting.Parts text g next h is =
-    let p = put-ok g.parts (number_in 1 4096 text) _ next is in
-    let r = number_in-ok 1 4096 p.0 text p.1 in
+    let p = put-ok g.parts (number_in 1 MAX_PARTITIONS text) _ next is in
+    let r = number_in-ok 1 MAX_PARTITIONS p.0 text p.1 in
     subst (λ g. IsInRange (options_of g)) p.2 (assumption (h, r))
 with_value-in_range setting.Workers text g next h is =
-    let p = put-ok g.workers (number_in 1 64 text) _ next is in
-    let r = number_in-ok 1 64 p.0 text p.1 in
-    let same = sym (workers_of-how_of (unwrap_or g.search Turns) p.0) in
+    let p = put-ok g.workers (number_in 1 limits.MAX_WORKERS text) _ next is in
+    let r = number_in-ok 1 limits.MAX_WORKERS p.0 text p.1 in
+    let same = sym (workers_of-how_of (unwrap_or g.search DEFAULT_SEARCH) p.0) in
     let low = subst (λ n. 1 ≤ n) same r.0 in
-    let high = subst (λ n. n ≤ 64) same r.1 in
+    let high = subst (λ n. n ≤ limits.MAX_WORKERS) same r.1 in
     subst (λ g. IsInRange (options_of g)) p.2 (assumption (h, low, high))
 with_value-in_range setting.Search text g next h is =
     let p = put-ok g.search _ _ next is in
-    let other = IsInRange-workers (unwrap_or g.search Turns) p.0 (unwrap_or g.workers 4) in
-    let low = other (λ n. 1 ≤ n) h.some_worker in
-    let high = other (λ n. n ≤ 64) h.few_workers in
+    let other = IsInRange-workers (unwrap_or g.search DEFAULT_SEARCH) p.0 (unwrap_or g.workers limits.DEFAULT_WORKERS) in
+    let low = other (λ n. 1 ≤ n) h.settings.some_worker in
+    let high = other (λ n. n ≤ limits.MAX_WORKERS) h.settings.few_workers in
     subst (λ g. IsInRange (options_of g)) p.2 (assumption (h, low, high))
 with_value-in_range setting.Enc text g next h is =
     let p = put-ok g.enc _ _ next is in
     subst (λ g. IsInRange (options_of g)) p.2 (assumption h)
 with_value-in_range setting.Pilots text g next h is =
-    let p = put-ok g.pilots (number_in 1 4_294_967_295 text) _ next is in
-    let r = number_in-ok 1 4_294_967_295 p.0 text p.1 in
+    let p = put-ok g.pilots (number_in 1 MAX_PILOTS text) _ next is in
+    let r = number_in-ok 1 MAX_PILOTS p.0 text p.1 in
     subst (λ g. IsInRange (options_of g)) p.2 (assumption (h, r))
 with_value-in_range setting.Blocks text g next h is =
-    let p = put-ok g.blocks (number_in 0 65536 text) _ next is in
-    let r = number_in-ok 0 65536 p.0 text p.1 in
+    let p = put-ok g.blocks (number_in 0 limits.MAX_BLOCKS text) _ next is in
+    let r = number_in-ok 0 limits.MAX_BLOCKS p.0 text p.1 in
     subst (λ g. IsInRange (options_of g)) p.2 (assumption (h, r))
 with_value-in_range setting.Limit text g next h is =
-    let p = put-ok g.limit (number_in 1 67_108_864 text) _ next is in
-    let r = number_in-ok 1 67_108_864 p.0 text p.1 in
+    let p = put-ok g.limit (number_in 1 MAX_KEYS text) _ next is in
+    let r = number_in-ok 1 MAX_KEYS p.0 text p.1 in
     subst (λ g. IsInRange (options_of g)) p.2 (assumption (h, r))
 
 with_named-in_range : (s : Option Setting) (text : List ℕ) (g next : Given) → IsInRange (options_of g) →
@@ -160,18 +166,17 @@ given_by-in_range (word ∷ words) first g last h is =
 -- the defaults are in range
 defaults_in_range : IsInRange (options_of nothing_given)
 defaults_in_range = record {
-  some_seed = omega arith;
-  few_seeds = omega arith;
-  alpha_low = omega arith;
-  alpha_high = omega arith;
-  c_low = omega arith;
-  c_high = omega arith;
-  some_part = omega arith;
-  few_parts = omega arith;
-  some_pilot = omega arith;
-  few_pilots = omega arith;
-  some_worker = omega arith;
-  few_workers = omega arith;
+  settings = record {
+    some_seed = omega arith;
+    few_seeds = omega arith;
+    shape = record { alpha_low = omega arith; alpha_high = omega arith; c_low = omega arith; c_high = omega arith };
+    some_partition = omega arith;
+    few_partitions = omega arith;
+    some_pilot = omega arith;
+    few_pilots = omega arith;
+    some_worker = omega arith;
+    few_workers = omega arith;
+  };
   few_blocks = omega arith;
   some_key = omega arith;
   few_keys = omega arith;

@@ -5,7 +5,8 @@ use Rattle.std.specs.List.{slice_split}
 use Rattle.std.proofs.lemmas.Bool.Decides.{nat_tests}
 use Rattle.std.proofs.lemmas.List.{at_drop_more, at_drop_all}
 use Rattle.command_words.specs.declared.kinds.TheConstants.{NUMBER, RANGE}
-use Rattle.command_words.specs.declared.number.TheConstants.{COMMA, MOST_SEEDS}
+use Rattle.command_words.specs.declared.number.TheConstants.{COMMA}
+use Rattle.settings.specs.declared.settings.TheConstants.{MAX_SEEDS}
 use Rattle.command_words.specs.Values.{number_of, numbers_of, few_seeds, seeds_in}
 
 -- numbers after these
@@ -59,18 +60,18 @@ all_seeds text k seeds end so_far =
 
 -- not too many seeds
 pub few : (text : List ℕ) (k : ℕ) (seeds : List ℕ) → length (pieces_of text) ≤ k →
-    after seeds (numbers_of (drop k (pieces_of text))) ≡ numbers_of (pieces_of text) → length seeds ≤ MOST_SEEDS →
+    after seeds (numbers_of (drop k (pieces_of text))) ≡ numbers_of (pieces_of text) → length seeds ≤ MAX_SEEDS →
     seeds_in text ≡ Ok seeds
 unfolding seeds_in
 few text k seeds end so_far small =
-    let fits : nat_le (length seeds) MOST_SEEDS ≡ true = grind (arith, nat_tests) in
+    let fits : nat_le (length seeds) MAX_SEEDS ≡ true = grind (arith, nat_tests) in
     ap few_seeds (all_seeds text k seeds end so_far) ∙ ap (λ b. cond b (Ok seeds) (Err RANGE)) fits
 
 -- too many seeds
 pub many : (text : List ℕ) (k : ℕ) (seeds : List ℕ) → length (pieces_of text) ≤ k →
-    after seeds (numbers_of (drop k (pieces_of text))) ≡ numbers_of (pieces_of text) → MOST_SEEDS < length seeds →
+    after seeds (numbers_of (drop k (pieces_of text))) ≡ numbers_of (pieces_of text) → MAX_SEEDS < length seeds →
     seeds_in text ≡ Err RANGE
 unfolding seeds_in
 many text k seeds end so_far large =
-    let over : nat_le (length seeds) MOST_SEEDS ≡ false = grind (arith, nat_tests) in
+    let over : nat_le (length seeds) MAX_SEEDS ≡ false = grind (arith, nat_tests) in
     ap few_seeds (all_seeds text k seeds end so_far) ∙ ap (λ b. cond b (Ok seeds) (Err RANGE)) over

@@ -2,5 +2,4 @@ pub mod Refusals
 pub mod Values
 pub mod Options
 pub mod Settings
-pub mod Chosen
 pub mod Words

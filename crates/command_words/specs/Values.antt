@@ -2,14 +2,17 @@
 use Rattle.std.specs.Prelude.{◌≡◌, ◌<◌, ◌≤◌, slice_index, ◌==◌, ℕ, ◌^◌, ◌&&◌, List, [], ◌∷◌, length, codes, bytes_eq, decimal, nat_le, nat_lt, if◌then◌else◌, Option, Some, None, Result, Ok, Err, ok_or, option_map, option_and_then}
 use Rattle.std.specs.List.{slice_split, before_first, after_first, position_or_len}
 use Rattle.std.specs.Str.Parse.{digits_value}
+use Rattle.pthash.specs.declared.Map.{Map}
+use Rattle.pthash.specs.declared.Map.TheVariants.{Skewed, Uniform}
+use Rattle.pilot_codecs.specs.declared.code.Code.{Code}
+use Rattle.pilot_codecs.specs.declared.code.Code.TheVariants.{Compact, Parted, Dict, EliasFano}
+use Rattle.pilot_codecs.specs.declared.code.Encoding.{Encoding}
+use Rattle.settings.specs.declared.settings.TheConstants.{MAX_SEEDS}
 use Rattle.command_words.specs.declared.kinds.TheConstants.{NUMBER, RANGE}
-use Rattle.command_words.specs.declared.number.TheConstants.{MOST_SEEDS, COMMA}
+use Rattle.command_words.specs.declared.number.TheConstants.{COMMA}
 use Rattle.command_words.specs.declared.values.TheConstants.{DASH}
 use Rattle.command_words.specs.declared.values.Search.{Search}
 use Rattle.command_words.specs.declared.values.Search.TheVariants.{Turns, Rounds}
-use Rattle.command_words.specs.declared.options.Code.{Code}
-use Rattle.command_words.specs.declared.options.Code.TheVariants.{Compact, Parted, Dict, EliasFano}
-use Rattle.command_words.specs.declared.options.Encoding.{Encoding}
 
 -- the number that a text spells: it is below 2 ^ 64, and the text is just its decimal digits
 unfoldable pub number_of : List ℕ → Option ℕ
@@ -40,7 +43,7 @@ numbers_of (text ∷ texts) = option_and_then (λ n. option_map (λ ns. n ∷ ns
 -- the seeds, if they are numbers and not too many
 abbrev pub few_seeds : Option (List ℕ) → Result (List ℕ) ℕ
 few_seeds None = Err NUMBER
-few_seeds (Some seeds) = if nat_le (length seeds) MOST_SEEDS then Ok seeds else Err RANGE
+few_seeds (Some seeds) = if nat_le (length seeds) MAX_SEEDS then Ok seeds else Err RANGE
 
 -- seeds, as a text lists them between commas
 unfoldable pub seeds_in : List ℕ → Result (List ℕ) ℕ
@@ -50,6 +53,12 @@ seeds_in text = few_seeds (numbers_of (slice_split (λ b. b == COMMA) text))
 abbrev pub search_in : List ℕ → Result Search ℕ
 search_in text = if bytes_eq text (codes "turns") then Ok Turns
     else if bytes_eq text (codes "rounds") then Ok Rounds
+    else Err RANGE
+
+-- the map that a text names
+abbrev pub map_in : List ℕ → Result Map ℕ
+map_in text = if bytes_eq text (codes "skewed") then Ok Skewed
+    else if bytes_eq text (codes "uniform") then Ok Uniform
     else Err RANGE
 
 -- the code that a text names

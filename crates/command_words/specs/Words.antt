@@ -1,9 +1,21 @@
 -- The command that words ask for, or the first faulty word.
-use Rattle.std.specs.Prelude.{ℕ, ◌+◌, List, [], ◌∷◌, codes, bytes_eq, if◌then◌else◌, Result, Ok, Err}
+use Rattle.std.specs.Prelude.{ℕ, ◌+◌, List, [], ◌∷◌, string_bytes, codes, bytes_eq, if◌then◌else◌, Option, Some, None, Result, Ok, Err}
 use Rattle.command_words.specs.declared.faults.WordFault.{WordFault}
 use Rattle.command_words.specs.declared.kinds.TheConstants.{COMMAND, MISSING}
-use Rattle.command_words.specs.Options.{OptionsData, CommandData, PilotsOf}
+use Rattle.command_words.specs.declared.words.Command.{Command}
+use Rattle.command_words.specs.declared.words.Command.TheVariants.{Pilots}
+use Rattle.command_words.specs.declared.words.Name.{Name}
+use Rattle.command_words.specs.declared.words.Name.TheVariants as name
+use Rattle.command_words.specs.Options.{OptionsData, options_data}
 use Rattle.command_words.specs.Settings.{Given, nothing_given, with_word, options_of}
+
+-- a command: its names as bytes, and its settings
+pub data CommandData : Type 0 where
+  PilotsOf : List ℕ → OptionsData → CommandData
+
+-- a command as data
+abbrev pub command_data : Command → CommandData
+command_data (Pilots keys options) = PilotsOf (string_bytes keys) (options_data options)
 
 -- a fault of this kind in this word
 abbrev pub fault_at : ℕ → ℕ → WordFault
@@ -19,18 +31,35 @@ unfoldable pub given_by : List (List ℕ) → ℕ → Given → Result Given Wor
 given_by [] word g = Ok g
 given_by (text ∷ texts) word g = after_word word (with_word text g) (λ next. given_by texts (word + 1) next)
 
--- a command with the settings that these values come to
-abbrev pub with_options : (OptionsData → CommandData) → Result Given WordFault → Result CommandData WordFault
+-- the settings that these values come to
+abbrev pub settled : Result Given WordFault → Result OptionsData WordFault
+settled (Err fault) = Err fault
+settled (Ok g) = Ok (options_of g)
+
+-- the settings that words give, the first of them in this word
+abbrev pub options_in : List (List ℕ) → ℕ → Result OptionsData WordFault
+options_in words first = settled (given_by words first nothing_given)
+
+-- a command with settings, or their fault
+abbrev pub with_options : (OptionsData → CommandData) → Result OptionsData WordFault → Result CommandData WordFault
 with_options command (Err fault) = Err fault
-with_options command (Ok g) = Ok (command (options_of g))
+with_options command (Ok options) = Ok (command options)
 
 -- the command `pilots`, from the words after it: the key file, and settings
 abbrev pub pilots_of : List (List ℕ) → Result CommandData WordFault
 pilots_of [] = Err (fault_at 1 MISSING)
-pilots_of (keys ∷ settings) = with_options (PilotsOf keys) (given_by settings 2 nothing_given)
+pilots_of (keys ∷ settings) = with_options (PilotsOf keys) (options_in settings 2)
+
+-- the name of a command that a word is
+abbrev pub name_of : List ℕ → Option Name
+name_of word = if bytes_eq word (codes "pilots") then Some name.Pilots else None
+
+-- the command of a name, from the words after it
+abbrev pub command_named : Option Name → List (List ℕ) → Result CommandData WordFault
+command_named None words = Err (fault_at 0 COMMAND)
+command_named (Some name.Pilots) words = pilots_of words
 
 -- the command that the words after the program's name ask for, or the first faulty word
 unfoldable pub command_of : List (List ℕ) → Result CommandData WordFault
 command_of [] = Err (fault_at 0 MISSING)
-command_of (command ∷ words) = if bytes_eq command (codes "pilots") then pilots_of words
-    else Err (fault_at 0 COMMAND)
+command_of (command ∷ words) = command_named (name_of command) words

@@ -1,39 +1,41 @@
 // The settings that words give, each at most once.
 ghost use Rattle.std.specs.Prelude.{◌≡◌, IfOk, IfErr, IsOk, IsNone, IsSome, Some, Err, option_map, unwrap_or, vec_items};
-ghost use Rattle.command_words.specs.Chosen.{chosen_values};
 ghost use Rattle.command_words.specs.Options.{options_data, IsInRange};
 ghost use Rattle.command_words.specs.Refusals.{Answers};
-ghost use Rattle.command_words.specs.Settings.{nothing_given, with_value, with_word, options_of, first_seeds, how_of};
+ghost use Rattle.command_words.specs.Settings.{chosen_values, nothing_given, with_value, with_word, options_of, how_of};
 
 use crate::faults::Refusal;
 use crate::kinds::{NAME, REPEATED};
-use crate::number::{read_number, read_seeds};
+use crate::number::{read_number, read_seeds, read_small};
+use crate::options::Options;
 use crate::setting::{Setting, setting_named};
-use crate::values::{Search, read_encoding, read_search};
-use crate::{Code, Encoding, How, Options, Settings};
-use bucket_map::{MAX_KEYS, Shape};
+use crate::values::{Search, read_encoding, read_map, read_search};
+use settings::{
+    DEFAULT_ALPHA, DEFAULT_BLOCKS, DEFAULT_C, DEFAULT_ENCODING, DEFAULT_MAP, DEFAULT_PARTITIONS,
+    DEFAULT_PILOTS, DEFAULT_SEEDS, DEFAULT_WORKERS, Encoding, How, MAX_ALPHA, MAX_BLOCKS, MAX_C,
+    MAX_KEYS, MAX_PARTITIONS, MAX_PILOTS, MAX_WORKERS, MIN_ALPHA, MIN_C, Map, Settings, Shape,
+};
 use std::alloc::{AllocError, Global};
 
 // The byte between a name and its value.
 const EQUALS: char = '=';
 
-const DEFAULT_ENCODING: Encoding = Encoding {
-    front: Code::Dict,
-    back: Some(Code::Dict),
-};
+// Who leads a search where no word says it.
+pub const DEFAULT_SEARCH: Search = Search::Turns;
 
 // The values of the settings that words give.
 #[derive(Drop)]
 pub struct Chosen {
     seeds: Option<Vec<u64>>,
-    alpha: Option<u64>,
-    c: Option<u64>,
-    parts: Option<u64>,
-    workers: Option<u64>,
+    alpha: Option<u32>,
+    c: Option<u32>,
+    map: Option<Map>,
+    parts: Option<u32>,
+    workers: Option<u32>,
     search: Option<Search>,
     enc: Option<Encoding>,
     pilots: Option<u64>,
-    blocks: Option<u64>,
+    blocks: Option<u32>,
     limit: Option<u64>,
 }
 
@@ -50,13 +52,13 @@ fn set<T: Drop>(slot: &mut Option<T>, value: Result<T, Refusal>) -> Result<(), R
     Ok(())
 }
 
-// The seeds, or the first eight numbers where none are given.
-fn seeds_or_first(alloc: Global, seeds: Option<Vec<u64>>) -> Result<Vec<u64>, AllocError>
-    ensures { IfOk result (λ v. v.items ≡ unwrap_or (option_map vec_items seeds) first_seeds) }
+// The seeds, or those by default where none are given.
+fn seeds_or_default(alloc: Global, seeds: Option<Vec<u64>>) -> Result<Vec<u64>, AllocError>
+    ensures { IfOk result (λ v. v.items ≡ unwrap_or (option_map vec_items seeds) DEFAULT_SEEDS) }
 {
     match seeds {
         Some(seeds) => Ok(seeds),
-        None => Vec::from_slice(alloc, &[1, 2, 3, 4, 5, 6, 7, 8]),
+        None => Vec::from_slice(alloc, &DEFAULT_SEEDS),
     }
 }
 
@@ -75,10 +77,11 @@ impl Chosen {
     pub fn new() -> Self
         ensures { chosen_values result ≡ nothing_given }
     {
-        Chosen {
+        Self {
             seeds: None,
             alpha: None,
             c: None,
+            map: None,
             parts: None,
             workers: None,
             search: None,
@@ -96,14 +99,15 @@ impl Chosen {
     {
         match setting {
             Setting::Seeds => set(&mut self.seeds, read_seeds(alloc, text)),
-            Setting::Alpha => set(&mut self.alpha, read_number(text, 50, 100)),
-            Setting::C => set(&mut self.c, read_number(text, 100, 1500)),
-            Setting::Parts => set(&mut self.parts, read_number(text, 1, 4096)),
-            Setting::Workers => set(&mut self.workers, read_number(text, 1, 64)),
+            Setting::Alpha => set(&mut self.alpha, read_small(text, MIN_ALPHA, MAX_ALPHA)),
+            Setting::C => set(&mut self.c, read_small(text, MIN_C, MAX_C)),
+            Setting::Map => set(&mut self.map, read_map(text)),
+            Setting::Parts => set(&mut self.parts, read_small(text, 1, MAX_PARTITIONS)),
+            Setting::Workers => set(&mut self.workers, read_small(text, 1, MAX_WORKERS)),
             Setting::Search => set(&mut self.search, read_search(text)),
             Setting::Enc => set(&mut self.enc, read_encoding(text)),
-            Setting::Pilots => set(&mut self.pilots, read_number(text, 1, 4_294_967_295)),
-            Setting::Blocks => set(&mut self.blocks, read_number(text, 0, 65536)),
+            Setting::Pilots => set(&mut self.pilots, read_number(text, 1, MAX_PILOTS)),
+            Setting::Blocks => set(&mut self.blocks, read_small(text, 0, MAX_BLOCKS)),
             Setting::Limit => set(&mut self.limit, read_number(text, 1, MAX_KEYS)),
         }
     }
@@ -127,10 +131,11 @@ impl Chosen {
         requires { IsInRange (options_of (chosen_values self)) }
         ensures { IfOk result (λ o. options_data o ≡ options_of (chosen_values self)) }
     {
-        let Chosen {
+        let Self {
             seeds,
             alpha,
             c,
+            map,
             parts,
             workers,
             search,
@@ -139,20 +144,24 @@ impl Chosen {
             blocks,
             limit,
         } = self;
-        let seeds = seeds_or_first(alloc, seeds)?;
+        let seeds = seeds_or_default(alloc, seeds)?;
         Ok(Options {
             settings: Settings {
                 seeds,
                 shape: Shape {
-                    alpha: alpha.unwrap_or(98) as u32,
-                    c: c.unwrap_or(700) as u32,
+                    alpha: alpha.unwrap_or(DEFAULT_ALPHA),
+                    c: c.unwrap_or(DEFAULT_C),
+                    map: map.unwrap_or(DEFAULT_MAP),
                 },
-                parts: parts.unwrap_or(1) as u32,
-                limit: pilots.unwrap_or(16_777_216),
-                how: how_to_search(search.unwrap_or(Search::Turns), workers.unwrap_or(4) as u32),
+                parts: parts.unwrap_or(DEFAULT_PARTITIONS),
+                limit: pilots.unwrap_or(DEFAULT_PILOTS),
+                how: how_to_search(
+                    search.unwrap_or(DEFAULT_SEARCH),
+                    workers.unwrap_or(DEFAULT_WORKERS),
+                ),
             },
             enc: enc.unwrap_or(DEFAULT_ENCODING),
-            blocks: blocks.unwrap_or(0) as u32,
+            blocks: blocks.unwrap_or(DEFAULT_BLOCKS),
             most: limit.unwrap_or(MAX_KEYS),
         })
     }

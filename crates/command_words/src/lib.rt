@@ -14,5 +14,6 @@ mod values;
 mod words;
 
 pub use faults::{WordFault, WordsErr};
-pub use options::{Code, Encoding, How, Options, Settings};
+pub use options::Options;
+pub use settings::{Code, Encoding, How, Map, Settings, Shape};
 pub use words::{Command, read_words};

@@ -1,14 +1,12 @@
 // Numbers in words.
-ghost use Rattle.std.specs.Prelude.{◌≡◌, ◌^◌, ◌<◌, ◌↔◌, ℕ, IsTrue, Some, None, IfSome, decimal, vec_items};
+ghost use Rattle.std.specs.Prelude.{◌≡◌, ◌^◌, ◌<◌, ◌≤◌, ◌↔◌, ℕ, IsTrue, Some, None, IfSome, IfOk, decimal, vec_items};
 ghost use Rattle.command_words.specs.Refusals.{Answers};
 ghost use Rattle.command_words.specs.Values.{IsPlain, number_of, number_in, seeds_in};
 
 use crate::faults::Refusal;
 use crate::kinds::{NUMBER, RANGE};
+use settings::MAX_SEEDS;
 use std::alloc::Global;
-
-// The most seeds of a list.
-pub const MOST_SEEDS: usize = 16;
 
 // The byte between two seeds.
 pub const COMMA: char = ',';
@@ -39,7 +37,8 @@ fn number(text: &str) -> Option<u64>
 
 // The number that a text spells, from low to high.
 pub fn read_number(text: &str, low: u64, high: u64) -> Result<u64, Refusal>
-    ensures { Answers (λ x. x) result (number_in low high text.now) }
+    ensures value { Answers (λ x. x) result (number_in low high text.now) }
+    ensures fits { IfOk result (λ n. n ≤ high) }
 {
     let Some(n) = number(text) else {
         return Err(Refusal::Kind(NUMBER));
@@ -48,6 +47,16 @@ pub fn read_number(text: &str, low: u64, high: u64) -> Result<u64, Refusal>
         return Err(Refusal::Kind(RANGE));
     }
     Ok(n)
+}
+
+// The number that a text spells, from low to high, in 32 bits.
+pub fn read_small(text: &str, low: u32, high: u32) -> Result<u32, Refusal>
+    ensures { Answers (λ x. x) result (number_in low high text.now) }
+{
+    match read_number(text, u64::from(low), u64::from(high)) {
+        Ok(n) => Ok(n as u32),
+        Err(refusal) => Err(refusal),
+    }
 }
 
 // The seeds that a text lists between commas.
@@ -61,7 +70,7 @@ pub fn read_seeds(alloc: Global, text: &str) -> Result<Vec<u64>, Refusal>
         };
         seeds.push(seed)?;
     }
-    if seeds.len() > MOST_SEEDS {
+    if seeds.len() > MAX_SEEDS {
         return Err(Refusal::Kind(RANGE));
     }
     Ok(seeds)

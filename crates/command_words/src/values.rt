@@ -1,11 +1,11 @@
 // Values that are one of a few words.
 ghost use Rattle.std.specs.Prelude.{◌≡◌};
 ghost use Rattle.command_words.specs.Refusals.{Answers};
-ghost use Rattle.command_words.specs.Values.{code_of, cut_at, encoding_of, encoding_in, search_in};
+ghost use Rattle.command_words.specs.Values.{code_of, cut_at, encoding_of, encoding_in, map_in, search_in};
 
 use crate::faults::Refusal;
 use crate::kinds::RANGE;
-use crate::{Code, Encoding};
+use settings::{Code, Encoding, Map};
 
 // Who leads a search with several workers.
 #[derive(Clone, Copy, Debug, PartialEq, Eq)]
@@ -24,6 +24,17 @@ pub fn read_search(text: &str) -> Result<Search, Refusal>
     match text {
         "turns" => Ok(Search::Turns),
         "rounds" => Ok(Search::Rounds),
+        _ => Err(Refusal::Kind(RANGE)),
+    }
+}
+
+// The map that a text names.
+pub fn read_map(text: &str) -> Result<Map, Refusal>
+    ensures { Answers (λ x. x) result (map_in text.now) }
+{
+    match text {
+        "skewed" => Ok(Map::Skewed),
+        "uniform" => Ok(Map::Uniform),
         _ => Err(Refusal::Kind(RANGE)),
     }
 }

@@ -1,15 +1,14 @@
 // From the words after the program's name to the command that they ask for.
-ghost use Rattle.std.specs.Prelude.{◌≡◌, ◌+◌, ◌<◌, ◌^◌, IfOk, IfErr, Ok, Err, length};
-ghost use Rattle.command_words.specs.Chosen.{chosen_values};
-ghost use Rattle.command_words.specs.Options.{words_of, data_of, IsCommandInRange};
+ghost use Rattle.std.specs.Prelude.{◌≡◌, ◌+◌, ◌<◌, ◌^◌, IfOk, IfErr, Ok, Err, Some, length};
+ghost use Rattle.command_words.specs.Options.{words_of, options_data};
 ghost use Rattle.command_words.specs.Refusals.{IfBad};
-ghost use Rattle.command_words.specs.Settings.{nothing_given};
-ghost use Rattle.command_words.specs.Words.{command_of, pilots_of, given_by};
+ghost use Rattle.command_words.specs.Settings.{chosen_values, nothing_given};
+ghost use Rattle.command_words.specs.Words.{command_data, name_of, command_named, command_of, pilots_of, options_in, given_by};
 
 use crate::chosen::Chosen;
-use crate::faults::Refusal;
+use crate::faults::{Refusal, WordFault, WordsErr};
 use crate::kinds::{COMMAND, MISSING};
-use crate::{Options, WordFault, WordsErr};
+use crate::options::Options;
 use std::alloc::Global;
 
 /// A command with its names and its settings.
@@ -18,19 +17,24 @@ pub enum Command {
     Pilots { keys: String, options: Options },
 }
 
+// The name of a command.
+#[derive(Clone, Copy, Debug, PartialEq, Eq)]
+pub enum Name {
+    Pilots,
+}
+
 /// The command that the words after the program's name ask for, or the first faulty word.
 pub fn read_words(alloc: Global, words: &[String]) -> Result<Command, WordsErr>
-    ensures ok { IfOk result (λ c. command_of (words_of words.now) ≡ Ok (data_of c)) }
-    ensures in_range { IfOk result (λ c. IsCommandInRange (data_of c)) }
+    ensures ok { IfOk result (λ c. command_of (words_of words.now) ≡ Ok (command_data c)) }
     ensures bad { IfErr result (IfBad (λ fault. command_of (words_of words.now) ≡ Err fault)) }
 {
     let Some((command, rest)) = words.split_first() else {
         return Err(bad(0, MISSING));
     };
-    match command.as_str() {
-        "pilots" => read_pilots(alloc, rest),
-        _ => Err(bad(0, COMMAND)),
-    }
+    let Some(name) = name_in(command) else {
+        return Err(bad(0, COMMAND));
+    };
+    read_command(alloc, name, rest)
 }
 
 // A fault of this word.
@@ -40,21 +44,52 @@ fn bad(word: u64, kind: u8) -> WordsErr
     WordsErr::Bad(WordFault { word, kind })
 }
 
+// The name of a command that a word is.
+fn name_in(word: &str) -> Option<Name>
+    ensures { result ≡ name_of word.now }
+{
+    match word {
+        "pilots" => Some(Name::Pilots),
+        _ => None,
+    }
+}
+
+// The command of a name, from the words after it.
+fn read_command(alloc: Global, name: Name, words: &[String]) -> Result<Command, WordsErr>
+    ensures ok { IfOk result (λ c.
+        command_named (Some name) (words_of words.now) ≡ Ok (command_data c)) }
+    ensures bad { IfErr result (IfBad (λ fault.
+        command_named (Some name) (words_of words.now) ≡ Err fault)) }
+{
+    match name {
+        Name::Pilots => read_pilots(alloc, words),
+    }
+}
+
 // The command `pilots`, from the words after it.
 fn read_pilots(alloc: Global, words: &[String]) -> Result<Command, WordsErr>
-    ensures ok { IfOk result (λ c. pilots_of (words_of words.now) ≡ Ok (data_of c)) }
-    ensures in_range { IfOk result (λ c. IsCommandInRange (data_of c)) }
+    ensures ok { IfOk result (λ c. pilots_of (words_of words.now) ≡ Ok (command_data c)) }
     ensures bad { IfErr result (IfBad (λ fault. pilots_of (words_of words.now) ≡ Err fault)) }
 {
     let Some((keys, settings)) = words.split_first() else {
         return Err(bad(1, MISSING));
     };
-    let options = read_settings(alloc, settings, 2)?.options(alloc)?;
+    let options = read_options(alloc, settings, 2)?;
     let keys = String::from_str(alloc, keys)?;
     Ok(Command::Pilots { keys, options })
 }
 
-// The settings, of which the first stands in this word.
+// The settings that words give, the first of them in this word.
+fn read_options(alloc: Global, words: &[String], first: u64) -> Result<Options, WordsErr>
+    requires { first + length words.now < 2 ^ 64 }
+    ensures ok { IfOk result (λ o. options_in (words_of words.now) first ≡ Ok (options_data o)) }
+    ensures bad { IfErr result (IfBad (λ fault.
+        options_in (words_of words.now) first ≡ Err fault)) }
+{
+    Ok(read_settings(alloc, words, first)?.options(alloc)?)
+}
+
+// The values of the settings that words give, the first of them in this word.
 fn read_settings(alloc: Global, words: &[String], first: u64) -> Result<Chosen, WordsErr>
     requires { first + length words.now < 2 ^ 64 }
     ensures ok { IfOk result (λ chosen.

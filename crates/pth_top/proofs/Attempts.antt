@@ -10,6 +10,7 @@ use Rattle.pthash.specs.Records.{records_of}
 use Rattle.pthash.specs.Sizes.{partition_of}
 use Rattle.build_outcome.specs.Clash.{clash_of}
 use Rattle.build_outcome.specs.Attempt.{Rules, Attempt, clashed, attempt_of, parts_from, by_parts, unless_clash}
+use Rattle.pth_top.specs.Shown.{shown_attempt}
 
 -- there are as many numbers as were asked for
 length-numbers : (m : ℕ) → length (numbers_below m) ≡ m
@@ -38,17 +39,21 @@ partition_fits records parts part within =
     rw here (length-filter-le (λ r. partition_of r.a r.b parts == slice_index_or (numbers_below parts) part 0) records)
 
 -- an attempt that clashes
-pub clashed_attempt : (rules : Rules) (keys : List (List ℕ)) (seed i j : ℕ) (answer : Option (ℕ × ℕ)) → answer ≡ clash_of keys seed → answer ≡ Some (i, j)
-    → clashed i j ≡ attempt_of rules keys seed
+pub clashed_attempt : (rules : Rules) (keys : List (List ℕ)) (seed i j : ℕ) (answer : Option (ℕ × ℕ)) →
+    answer ≡ clash_of keys seed → answer ≡ Some (i, j) → clashed i j ≡ shown_attempt (attempt_of rules keys seed)
 unfolding attempt_of
 clashed_attempt rules keys seed i j answer is found =
-    sym (ap (λ c. unless_clash c (by_parts (parts_from rules seed 0 (partitions_of (records_of keys seed) rules.parts)))) (sym is ∙ found))
+    let parts = by_parts (parts_from rules seed 0 (partitions_of (records_of keys seed) rules.parts)) in
+    sym (ap (λ c. shown_attempt (unless_clash c parts)) (sym is ∙ found))
 
 -- an attempt that doesn't clash ends as its partitions do
-pub parted_attempt : (rules : Rules) (keys : List (List ℕ)) (seed : ℕ) (answer : Option (ℕ × ℕ)) (partitions : List (List Record)) (attempt : Attempt)
-    → answer ≡ clash_of keys seed → answer ≡ None → partitions ≡ partitions_of (records_of keys seed) rules.parts
-    → attempt ≡ by_parts (parts_from rules seed 0 partitions) → attempt ≡ attempt_of rules keys seed
+pub parted_attempt : (rules : Rules) (keys : List (List ℕ)) (seed : ℕ) (answer : Option (ℕ × ℕ))
+    (partitions : List (List Record)) (attempt : Attempt) → answer ≡ clash_of keys seed → answer ≡ None →
+    partitions ≡ partitions_of (records_of keys seed) rules.parts →
+    attempt ≡ shown_attempt (by_parts (parts_from rules seed 0 partitions)) →
+    attempt ≡ shown_attempt (attempt_of rules keys seed)
 unfolding attempt_of
 parted_attempt rules keys seed answer partitions attempt is none are ends =
-    ends ∙ ap (λ (ps : List (List Record)). by_parts (parts_from rules seed 0 ps)) are
-    ∙ sym (ap (λ c. unless_clash c (by_parts (parts_from rules seed 0 (partitions_of (records_of keys seed) rules.parts)))) (sym is ∙ none))
+    let parts = by_parts (parts_from rules seed 0 (partitions_of (records_of keys seed) rules.parts)) in
+    ends ∙ ap (λ (ps : List (List Record)). shown_attempt (by_parts (parts_from rules seed 0 ps))) are
+    ∙ sym (ap (λ c. shown_attempt (unless_clash c parts)) (sym is ∙ none))

@@ -1,12 +1,12 @@
 mod Attempts
 mod Clashes
+mod Endings
 mod Numbered
 mod Outcomes
-mod PartPilots
-mod PartResults
-mod Parts
+mod PartitionPilots
+mod PartitionResults
+mod Partitions
 mod RecordSteps
-mod Refusals
 mod Repeats
 mod Results
 mod TextSteps

@@ -1,15 +1,37 @@
 -- What the answers of `pilots` give, in the words of its definition.
-use Rattle.std.proofs.Common.{◌≡◌, ℕ, ◌≤◌, false, true, List, [], ◌∷◌, length, take, Option, Some, None, IfSome, option_map, refl, sym, ap, ◌∙◌, arith}
+use Rattle.std.proofs.Common.{◌≡◌, ℕ, ◌+◌, ◌≤◌, false, true, List, [], ◌∷◌, ◌++◌, length, map, take, Option, Some, None, IfSome, option_map, refl, sym, ap, ◌∙◌, arith}
 use Rattle.std.specs.Prelude.{IsSomeAnd, nat_lt, cond}
-use Rattle.std.specs.FinMap as map
+use Rattle.std.specs.FinMap as fin
 use Rattle.std.proofs.lemmas.Bool.{lt-ltb, le-ltb}
 use Rattle.std.proofs.lemmas.List.{take_all}
-use Rattle.build_outcome.specs.Outcome.{Outcome, outcome_of}
+use Rattle.pthash.specs.Sizes.{table_size_of}
+use Rattle.build_outcome.specs.Index.{PartData}
+use Rattle.build_outcome.specs.Outcome.{Outcome, repeated, exhausted, built, outcome_of}
 use Rattle.command_words.specs.Options.{OptionsData}
 use Rattle.pth_outside.specs.Files.{FileMap, OfFile}
 use Rattle.pth_outside.specs.Keys.{keys_of, first_too_long, AreTooMany}
-use Rattle.pth_top.specs.Done.{Done}
-use Rattle.pth_top.specs.Pilots.{pilots_result, keys_result, outcome_result, rules_of, too_long_result, too_many_result, no_keys_result, unless_too_long}
+use Rattle.pth_top.specs.declared.answer.Answer.{Answer}
+use Rattle.pth_top.specs.Done.{Done, Gives, done_of, said, with_file}
+use Rattle.pth_top.specs.Pilots.{pilots_result, keys_result, outcome_result, parts_lines, too_long_result, too_many_result, no_keys_result, unless_too_long}
+use Rattle.pth_top.specs.Rules.{rules_of}
+use Rattle.pth_top.specs.Shown.{shown_part, shown_outcome}
+use Rattle.pth_top.specs.Texts.{part_lines, seed_lines}
+
+-- no line of a partition depends on its free list
+parts_lines-shown : (alpha number : ℕ) (parts : List PartData) →
+    parts_lines alpha number (map shown_part parts) ≡ parts_lines alpha number parts
+parts_lines-shown alpha number [] = refl
+parts_lines-shown alpha number (part ∷ parts) =
+    ap (λ (more : List ℕ). part_lines number part.n (table_size_of part.n alpha) part.pilots ++ more)
+    (parts_lines-shown alpha (number + 1) parts)
+
+-- what is given of an outcome is given of what is shown of it
+outcome_result-shown : (seeds : List ℕ) (outcome : Outcome) →
+    outcome_result seeds (shown_outcome outcome) ≡ outcome_result seeds outcome
+outcome_result-shown seeds (repeated i j) = refl
+outcome_result-shown seeds (exhausted causes) = refl
+outcome_result-shown seeds (built x) =
+    ap (λ (lines : List ℕ). said 0 (seed_lines x.seed x.n ++ lines)) (parts_lines-shown x.shape.alpha 0 x.parts)
 
 -- a list with no key
 pub no_keys_done : (o : OptionsData) (keys : List (List ℕ)) → length keys ≡ 0 → no_keys_result ≡ keys_result o keys
@@ -18,25 +40,52 @@ no_keys_done o [] none = refl
 no_keys_done o (key ∷ keys) none = absurd (omega arith)
 
 -- a list with a key
-pub keys_done : (o : OptionsData) (keys : List (List ℕ)) (n : ℕ) (ended : Outcome) → n ≡ length keys → (n ≡ 0 → ⊥) → ended ≡ outcome_of (rules_of o) keys o.seeds
-    → outcome_result o n ended ≡ keys_result o keys
+pub keys_done : (o : OptionsData) (keys : List (List ℕ)) (shown : Outcome) → (length keys ≡ 0 → ⊥) →
+    shown ≡ shown_outcome (outcome_of (rules_of o.settings) keys o.settings.seeds) →
+    outcome_result o.settings.seeds shown ≡ keys_result o keys
 unfolding keys_result
-keys_done o [] n ended count some is = absurd (some count)
-keys_done o (key ∷ keys) n ended count some is = λ i. outcome_result o (count i) (is i)
+keys_done o [] shown some is = absurd (some refl)
+keys_done o (key ∷ keys) shown some is =
+    ap (outcome_result o.settings.seeds) is
+    ∙ outcome_result-shown o.settings.seeds (outcome_of (rules_of o.settings) (key ∷ keys) o.settings.seeds)
+
+-- files without a new one are those from before
+pub no_new_file : (old : Option FileMap) → old ≡ option_map (with_file None) old
+no_new_file None = refl
+no_new_file (Some m) = refl
+
+-- an answer that says what is defined, where no file changes
+gives_of : (found : Option Done) (answer : Answer) (old new : Option FileMap) → found ≡ Some (done_of answer) →
+    new ≡ old → IsSomeAnd found (λ d. Gives d answer old new)
+gives_of None answer old new is same = absurd cc
+gives_of (Some d) answer old new is same =
+    let says : d ≡ done_of answer = cc in
+    record {
+      status_is = ap (λ (d : Done). d.status) (sym says);
+      text_is = ap (λ (d : Done). d.text) (sym says);
+      files = same ∙ no_new_file old ∙ ap (λ (d : Done). option_map (with_file d.file) old) (sym says);
+    }
+
+-- the same of files that may tell nothing
+pub gives : (told new : Option FileMap) (found : FileMap → Option Done) (answer : Answer) →
+    IfSome told (λ m. found m ≡ Some (done_of answer)) → new ≡ told →
+    IfSome told (λ m. IsSomeAnd (found m) (λ d. Gives d answer told new))
+gives None new found answer is same = tt
+gives (Some m) new found answer is same = gives_of (found m) answer (Some m) new is same
 
 -- a file that has one of these outcomes gives this
-over_file : (told : Option FileMap) (name : List ℕ) (o : OptionsData) (d : Done) (P : List ℕ → Type 0) → ((bytes : List ℕ) → P bytes → pilots_result o bytes ≡ d)
-    → OfFile told name P → IfSome told (λ m. option_map (pilots_result o) (map.get m name) ≡ Some d)
+over_file : (told : Option FileMap) (name : List ℕ) (o : OptionsData) (d : Done) (P : List ℕ → Type 0) → ((bytes : List ℕ) → P bytes → pilots_result o bytes ≡ d) →
+    OfFile told name P → IfSome told (λ m. option_map (pilots_result o) (fin.get m name) ≡ Some d)
 over_file None name o d P gives of = tt
-over_file (Some m) name o d P gives of = found (map.get m name) (of refl)
+over_file (Some m) name o d P gives of = found (fin.get m name) (of refl)
   where
     found : (bytes : Option (List ℕ)) → IsSomeAnd bytes P → option_map (pilots_result o) bytes ≡ Some d
     found None is = absurd is
     found (Some bytes) is = ap Some (gives bytes is)
 
 -- a file that is read
-pub done_over_keys : (told : Option FileMap) (name : List ℕ) (o : OptionsData) (keys : List (List ℕ)) (d : Done) → OfFile told name (λ bytes. keys ≡ keys_of bytes)
-    → length keys ≤ o.most → first_too_long keys ≡ None → d ≡ keys_result o keys → IfSome told (λ m. option_map (pilots_result o) (map.get m name) ≡ Some d)
+pub done_over_keys : (told : Option FileMap) (name : List ℕ) (o : OptionsData) (keys : List (List ℕ)) (d : Done) → OfFile told name (λ bytes. keys ≡ keys_of bytes) →
+    length keys ≤ o.most → first_too_long keys ≡ None → d ≡ keys_result o keys → IfSome told (λ m. option_map (pilots_result o) (fin.get m name) ≡ Some d)
 unfolding pilots_result
 done_over_keys told name o keys d of few short is =
     over_file told name o d (λ bytes. keys ≡ keys_of bytes)
@@ -51,18 +100,18 @@ done_over_keys told name o keys d of few short is =
     of
 
 -- a file with a line that is too long
-pub done_over_too_long : (told : Option FileMap) (name : List ℕ) (o : OptionsData) (line : ℕ) (d : Done)
-    → OfFile told name (λ bytes. first_too_long (take o.most (keys_of bytes)) ≡ Some line) → d ≡ too_long_result line
-    → IfSome told (λ m. option_map (pilots_result o) (map.get m name) ≡ Some d)
+pub done_over_too_long : (told : Option FileMap) (name : List ℕ) (o : OptionsData) (line : ℕ) (d : Done) →
+    OfFile told name (λ bytes. first_too_long (take o.most (keys_of bytes)) ≡ Some line) → d ≡ too_long_result line →
+    IfSome told (λ m. option_map (pilots_result o) (fin.get m name) ≡ Some d)
 unfolding pilots_result
 done_over_too_long told name o line d of is =
     over_file told name o d (λ bytes. first_too_long (take o.most (keys_of bytes)) ≡ Some line)
     (λ bytes long. ap (unless_too_long o (keys_of bytes)) long ∙ sym is) of
 
 -- a file with too many lines
-pub done_over_too_many : (told : Option FileMap) (name : List ℕ) (o : OptionsData) (d : Done)
-    → OfFile told name (λ bytes. AreTooMany o.most (keys_of bytes)) → d ≡ too_many_result o.most
-    → IfSome told (λ m. option_map (pilots_result o) (map.get m name) ≡ Some d)
+pub done_over_too_many : (told : Option FileMap) (name : List ℕ) (o : OptionsData) (d : Done) →
+    OfFile told name (λ bytes. AreTooMany o.most (keys_of bytes)) → d ≡ too_many_result o.most →
+    IfSome told (λ m. option_map (pilots_result o) (fin.get m name) ≡ Some d)
 unfolding pilots_result
 done_over_too_many told name o d of is =
     over_file told name o d (λ bytes. AreTooMany o.most (keys_of bytes))

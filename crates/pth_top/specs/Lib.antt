@@ -1,6 +1,7 @@
 pub mod Texts
 pub mod Done
-pub mod Part
+pub mod Rules
+pub mod Shown
 pub mod Built
 pub mod Pilots
 pub mod Words

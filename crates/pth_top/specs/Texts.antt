@@ -63,7 +63,7 @@ part_lines part keys size pilots =
 unfoldable pub seed_lines : ℕ → ℕ → List ℕ
 seed_lines seed keys = line (codes "seed " ++ decimal seed) ++ line (codes "keys " ++ decimal keys)
 
--- no seed of the list led to an end
+-- no seed of the list succeeds
 abbrev pub seeds_exhausted : List ℕ
 seeds_exhausted = codes "seeds exhausted\n"
 

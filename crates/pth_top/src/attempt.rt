@@ -1,78 +1,75 @@
 // An attempt at one seed.
 ghost use Rattle.std.specs.Prelude.{◌≡◌, ◌<◌, ◌≤◌, ℕ, [], length, slice_index_or, IfOk};
+ghost use Rattle.settings.specs.Settings.{settings_data};
 ghost use Rattle.build_outcome.specs.Attempt.{attempt_of, parts_from, by_parts};
 ghost use Rattle.pth_top.specs.Built.{attempt_data};
-ghost use Rattle.pth_top.specs.Part.{rules_in};
+ghost use Rattle.pth_top.specs.Rules.{rules_of};
+ghost use Rattle.pth_top.specs.Shown.{shown_attempt};
 
-use crate::part::build_part;
-use crate::partition::Part;
+use crate::answer::NoMemory;
+use crate::partition::Partition;
+use crate::partition_pilots::build_partition;
 use crate::records::{first_clash, records_of_keys};
-use bucket_map::{MAX_KEYS, NoMemory, Partitions, partitioned};
-use command_words::Settings;
+use bucket_map::{MAX_KEYS, MAX_PARTITIONS, Partitions, partitioned};
 use pth_outside::KeyList;
-use std::alloc::{AllocError, Global};
+use settings::Settings;
+use std::alloc::Global;
 
-/// What an attempt at a seed came to.
+/// How an attempt at a seed ends.
 #[derive(Drop)]
-pub enum Tried {
+pub enum Attempt {
     /// The keys at these places have the same pair of hashes.
     Clashed { first: u64, second: u64 },
     /// This bucket of this partition has no pilot.
-    Stuck { part: u32, bucket: u64 },
-    Complete { parts: Vec<Part> },
+    Stuck { partition: u32, bucket: u64 },
+    Complete { partitions: Vec<Partition> },
 }
 
 /// Tries a seed: a clash comes before any partition, and the first partition that is stuck decides.
-pub fn attempt(
+pub fn try_seed(
     alloc: Global,
     keys: &KeyList,
     seed: u64,
     settings: &Settings,
-) -> Result<Tried, NoMemory>
-    requires few { length keys.now ≤ MAX_KEYS }
-    requires some_part { 1 ≤ settings.now.parts }
-    requires few_parts { settings.now.parts ≤ 4096 }
-    requires some_pilot { 1 ≤ settings.now.limit }
-    requires few_pilots { settings.now.limit ≤ 4_294_967_295 }
-    ensures { IfOk result (λ tried.
-        attempt_data tried ≡ attempt_of (rules_in settings.now) keys.now seed) }
+) -> Result<Attempt, NoMemory>
+    requires { length keys.now ≤ MAX_KEYS }
+    ensures { IfOk result (λ attempt. attempt_data attempt
+        ≡ shown_attempt (attempt_of (rules_of (settings_data settings.now)) keys.now seed)) }
 {
     let records = records_of_keys(alloc, keys, seed)?;
     match first_clash(alloc, &records)? {
-        Some((first, second)) => Ok(Tried::Clashed { first, second }),
+        Some((first, second)) => Ok(Attempt::Clashed { first, second }),
         None => {
             let partitions = partitioned(alloc, &records, settings.parts)?;
-            build_parts(alloc, &partitions, seed, settings)
+            build_partitions(alloc, &partitions, seed, settings)
         }
     }
 }
 
 // Builds the partitions one after another.
-fn build_parts(
+fn build_partitions(
     alloc: Global,
     partitions: &Partitions,
     seed: u64,
     settings: &Settings,
-) -> Result<Tried, NoMemory>
-    requires few_parts { length partitions.now ≤ 4096 }
-    requires few { (part : ℕ) → part < length partitions.now →
-        length (slice_index_or partitions.now part []) ≤ MAX_KEYS }
-    requires some_pilot { 1 ≤ settings.now.limit }
-    requires few_pilots { settings.now.limit ≤ 4_294_967_295 }
-    ensures { IfOk result (λ tried.
-        attempt_data tried ≡ by_parts (parts_from (rules_in settings.now) seed 0 partitions.now)) }
+) -> Result<Attempt, NoMemory>
+    requires few_partitions { length partitions.now ≤ MAX_PARTITIONS }
+    requires few_keys { (k : ℕ) → k < length partitions.now →
+        length (slice_index_or partitions.now k []) ≤ MAX_KEYS }
+    ensures { IfOk result (λ attempt. attempt_data attempt ≡ shown_attempt (by_parts
+        (parts_from (rules_of (settings_data settings.now)) seed 0 partitions.now))) }
 {
-    let mut parts = Vec::new(alloc);
-    for part in 0..partitions.len() {
-        match build_part(alloc, partitions.records(part), seed, settings)? {
-            Ok(built) => parts.push(built).map_err(AllocError::from)?,
+    let mut built = Vec::new(alloc);
+    for number in 0..partitions.len() {
+        match build_partition(alloc, partitions.records(number), seed, settings)? {
+            Ok(partition) => built.push(partition)?,
             Err(bucket) => {
-                return Ok(Tried::Stuck {
-                    part: part as u32,
+                return Ok(Attempt::Stuck {
+                    partition: number as u32,
                     bucket,
                 });
             }
         }
     }
-    Ok(Tried::Complete { parts })
+    Ok(Attempt::Complete { partitions: built })
 }

@@ -4,8 +4,8 @@
 mod answer;
 mod attempt;
 mod outcome;
-mod part;
 mod partition;
+mod partition_pilots;
 mod pilots;
 mod records;
 #[cfg(test)]
@@ -13,9 +13,8 @@ mod tests;
 mod text;
 mod top;
 
-pub use command_words::{
-    Code, Command, Encoding, How, Options, Settings, WordFault, WordsErr, read_words,
-};
+pub use command_words::{Command, Options, WordFault, WordsErr, read_words};
+pub use settings::{Code, Encoding, How, Map, Settings, Shape};
 pub use top::run;
 
 // The statuses.

@@ -1,59 +1,74 @@
 // The outcome of a build over the listed seeds.
 ghost use Rattle.std.specs.Prelude.{◌≡◌, ◌<◌, ◌≤◌, length, bytes_eq, IfOk};
+ghost use Rattle.bucket_map.specs.ShapeData.{shape_data};
+ghost use Rattle.settings.specs.Settings.{settings_data};
 ghost use Rattle.build_outcome.specs.Clash.{key_at};
 ghost use Rattle.build_outcome.specs.Outcome.{outcome_of};
 ghost use Rattle.pth_top.specs.Built.{outcome_data};
-ghost use Rattle.pth_top.specs.Part.{rules_in};
+ghost use Rattle.pth_top.specs.Rules.{rules_of};
+ghost use Rattle.pth_top.specs.Shown.{shown_outcome};
 
-use crate::attempt::{Tried, attempt};
-use crate::partition::Part;
-use bucket_map::{MAX_KEYS, NoMemory};
+use crate::answer::NoMemory;
+use crate::attempt::{Attempt, try_seed};
+use crate::partition::Partition;
+use bucket_map::MAX_KEYS;
 use build_outcome::Cause;
-use command_words::Settings;
 use pth_outside::KeyList;
-use std::alloc::{AllocError, Global};
+use settings::Settings;
+use std::alloc::Global;
 
-/// What a build came to.
+/// How a build ends.
 #[derive(Drop)]
-pub enum Ended {
-    /// This seed led to an end.
-    Built { seed: u64, parts: Vec<Part> },
+pub enum Outcome {
+    /// The attempt at this seed was complete, for n keys.
+    Built {
+        seed: u64,
+        n: u64,
+        partitions: Vec<Partition>,
+    },
     /// The keys at these places are equal.
-    Repeated { first: u64, second: u64 },
-    /// No seed led to an end, each for its cause.
-    Exhausted { causes: Vec<Cause> },
+    Repeated {
+        first: u64,
+        second: u64,
+    },
+    /// No seed succeeded, each for its cause.
+    Exhausted {
+        causes: Vec<Cause>,
+    },
 }
 
-/// Tries the seeds in their order, until one leads to an end or a repeated key is found.
-pub fn outcome(alloc: Global, keys: &KeyList, settings: &Settings) -> Result<Ended, NoMemory>
-    requires few { length keys.now ≤ MAX_KEYS }
-    requires some_part { 1 ≤ settings.now.parts }
-    requires few_parts { settings.now.parts ≤ 4096 }
-    requires some_pilot { 1 ≤ settings.now.limit }
-    requires few_pilots { settings.now.limit ≤ 4_294_967_295 }
-    ensures { IfOk result (λ ended.
-        outcome_data ended ≡ outcome_of (rules_in settings.now) keys.now settings.now.seeds.items) }
+/// Tries the seeds in their order, until one succeeds or a repeated key is found.
+pub fn try_seeds(alloc: Global, keys: &KeyList, settings: &Settings) -> Result<Outcome, NoMemory>
+    requires { length keys.now ≤ MAX_KEYS }
+    ensures { IfOk result (λ outcome. outcome_data (shape_data settings.now.shape) outcome
+        ≡ shown_outcome (outcome_of
+        (rules_of (settings_data settings.now)) keys.now settings.now.seeds.items)) }
 {
     let mut causes = Vec::new(alloc);
     for &seed in &settings.seeds {
-        match attempt(alloc, keys, seed, settings)? {
-            Tried::Complete { parts } => return Ok(Ended::Built { seed, parts }),
-            Tried::Clashed { first, second } => {
-                if are_equal(keys, first, second) {
-                    return Ok(Ended::Repeated { first, second });
-                }
-                causes
-                    .push(Cause::SameHash { first, second })
-                    .map_err(AllocError::from)?;
+        match try_seed(alloc, keys, seed, settings)? {
+            Attempt::Complete { partitions } => {
+                return Ok(Outcome::Built {
+                    seed,
+                    n: keys.len(),
+                    partitions,
+                });
             }
-            Tried::Stuck { part, bucket } => {
-                causes
-                    .push(Cause::Stuck { part, bucket })
-                    .map_err(AllocError::from)?;
+            Attempt::Clashed { first, second } => {
+                if are_equal(keys, first, second) {
+                    return Ok(Outcome::Repeated { first, second });
+                }
+                causes.push(Cause::SameHash { first, second })?;
+            }
+            Attempt::Stuck { partition, bucket } => {
+                causes.push(Cause::Stuck {
+                    part: partition,
+                    bucket,
+                })?;
             }
         }
     }
-    Ok(Ended::Exhausted { causes })
+    Ok(Outcome::Exhausted { causes })
 }
 
 // Whether the keys at two places are equal.

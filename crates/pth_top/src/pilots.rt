@@ -1,18 +1,19 @@
 // The command `pilots`.
-ghost use Rattle.std.specs.Prelude.{◌≡◌, ◌≢◌, ◌≤◌, length, IfOk, IfSome, IsErrOf, IsTrue, Some, None, option_map};
+ghost use Rattle.std.specs.Prelude.{◌≡◌, ◌≢◌, ◌≤◌, length, IfOk, IfSome, IsSomeAnd, IsErrOf, None, option_map};
 ghost use Rattle.std.specs.FinMap as map;
-ghost use Rattle.command_words.specs.Options.{options_data, IsInRange};
-ghost use Rattle.pth_outside.specs.Files.{Rose, contents};
+ghost use Rattle.bucket_map.specs.ShapeData.{shape_data};
+ghost use Rattle.command_words.specs.Options.{options_data};
+ghost use Rattle.pth_outside.specs.Files.{ReadsFiles, contents};
+ghost use Rattle.pth_outside.specs.Keys.{keys_of};
 ghost use Rattle.pth_top.specs.Built.{outcome_data};
-ghost use Rattle.pth_top.specs.Done.{done_of};
+ghost use Rattle.pth_top.specs.Done.{Gives, done_of};
 ghost use Rattle.pth_top.specs.Ending.{IsOfCommand};
-ghost use Rattle.pth_top.specs.Pilots.{pilots_result, keys_result, outcome_result, too_long_result, too_many_result, no_keys_result};
+ghost use Rattle.pth_top.specs.Pilots.{HasRepeat, pilots_result, keys_result, outcome_result, too_long_result, too_many_result, no_keys_result};
 
-use crate::answer::{Answer, Stop};
-use crate::outcome::{Ended, outcome};
+use crate::answer::{Answer, NoMemory, Stop};
+use crate::outcome::{Outcome, try_seeds};
 use crate::text::{built_text, exhausted_text, repeated_key_text, too_long_text, too_many_text};
 use crate::{LIST_REFUSED, REPEATED_KEY, SEEDS_EXHAUSTED, WORDS_REFUSED};
-use bucket_map::NoMemory;
 use command_words::Options;
 use pth_outside::{Files, KeyList, KeysErr, read_keys};
 use std::alloc::{AllocError, Global};
@@ -24,21 +25,20 @@ pub fn pilots<F: Files>(
     options: &Options,
     files: &mut F,
 ) -> Result<Answer, Stop>
-    requires { IsInRange (options_data options.now) }
-    ensures done { IfOk result (λ answer. IfSome (F.told files.old) (λ m.
-        option_map (pilots_result (options_data options.now)) (map.get m name.now)
-        ≡ Some (done_of answer))) }
-    ensures own { IfOk result (λ answer. IsOfCommand answer.status) }
-    ensures not_refused { IfOk result (λ answer. answer.status ≢ WORDS_REFUSED) }
+    ensures done { IfOk result (λ answer. IfSome (F.state files.old).told (λ m.
+        IsSomeAnd (option_map (pilots_result (options_data options.now)) (map.get m name.now))
+        (λ d. Gives d answer (F.state files.old).told (F.state files.new).told))) }
 
-    ensures fault { IsErrOf result Stop.Fault → Rose (F.faults files.old) (F.faults files.new) }
-    ensures missing { IsErrOf result Stop.Fault → IsTrue (F.sure files.old) →
-        contents (F.told files.old) name.now ≡ None }
+    ensures own { IfOk result (λ answer. IsOfCommand answer.status) }
+    ensures statuses { IfOk result (λ answer. answer.status ≤ SEEDS_EXHAUSTED) }
+    ensures not_refused { IfOk result (λ answer. answer.status ≢ WORDS_REFUSED) }
+    ensures repeated { IfOk result (λ answer. answer.status ≡ REPEATED_KEY →
+        IfSome (F.state files.old).told (λ m.
+        IsSomeAnd (map.get m name.now) (λ bytes. HasRepeat (keys_of bytes)))) }
 
     // No file changes, whatever the answer.
-    ensures told { F.told files.new ≡ F.told files.old }
-    ensures sure { F.sure files.new ≡ F.sure files.old }
-    ensures later { F.faults files.old ≤ F.faults files.new }
+    ensures leaves { ReadsFiles (F.state files.old) (F.state files.new)
+        (IsErrOf result Stop.Fault) (contents (F.state files.old).told name.now ≡ None) }
 {
     match read_keys(alloc, files, name, options.most) {
         Ok(keys) => Ok(keys_answer(alloc, &keys, options)?),
@@ -84,46 +84,46 @@ fn no_keys_answer(alloc: Global) -> Result<Answer, AllocError>
 
 // The answer on the keys of a file.
 fn keys_answer(alloc: Global, keys: &KeyList, options: &Options) -> Result<Answer, NoMemory>
-    requires in_range { IsInRange (options_data options.now) }
-    requires few { length keys.now ≤ options.now.most }
+    requires { length keys.now ≤ options.now.most }
     ensures done { IfOk result (λ answer.
         done_of answer ≡ keys_result (options_data options.now) keys.now) }
     ensures own { IfOk result (λ answer. IsOfCommand answer.status) }
+    ensures statuses { IfOk result (λ answer. answer.status ≤ SEEDS_EXHAUSTED) }
     ensures not_refused { IfOk result (λ answer. answer.status ≢ WORDS_REFUSED) }
 {
-    let n = keys.len();
-    if n == 0 {
+    if keys.len() == 0 {
         return Ok(no_keys_answer(alloc)?);
     }
-    let ended = outcome(alloc, keys, &options.settings)?;
-    Ok(outcome_answer(alloc, n, &ended, options)?)
+    let outcome = try_seeds(alloc, keys, &options.settings)?;
+    Ok(outcome_answer(alloc, &outcome, options)?)
 }
 
-// The answer on an outcome for n keys.
-fn outcome_answer(
-    alloc: Global,
-    n: u64,
-    ended: &Ended,
-    options: &Options,
-) -> Result<Answer, AllocError>
-    ensures done { IfOk result (λ answer.
-        done_of answer ≡ outcome_result (options_data options.now) n (outcome_data ended.now)) }
+// The answer on an outcome.
+fn outcome_answer(alloc: Global, outcome: &Outcome, options: &Options) -> Result<Answer, AllocError>
+    ensures done { IfOk result (λ answer. done_of answer
+        ≡ outcome_result options.now.settings.seeds.items
+        (outcome_data (shape_data options.now.settings.shape) outcome.now)) }
     ensures own { IfOk result (λ answer. IsOfCommand answer.status) }
+    ensures statuses { IfOk result (λ answer. answer.status ≤ SEEDS_EXHAUSTED) }
     ensures not_refused { IfOk result (λ answer. answer.status ≢ WORDS_REFUSED) }
 {
-    match ended {
-        Ended::Built { seed, parts } => {
-            let text = built_text(alloc, n, *seed, parts, options.settings.shape)?;
+    match outcome {
+        Outcome::Built {
+            seed,
+            n,
+            partitions,
+        } => {
+            let text = built_text(alloc, *seed, *n, partitions, options.settings.shape)?;
             Ok(Answer { status: 0, text })
         }
-        Ended::Repeated { first, second } => {
+        Outcome::Repeated { first, second } => {
             let text = repeated_key_text(alloc, *first, *second)?;
             Ok(Answer {
                 status: REPEATED_KEY,
                 text,
             })
         }
-        Ended::Exhausted { causes } => {
+        Outcome::Exhausted { causes } => {
             let text = exhausted_text(alloc, &options.settings.seeds, causes)?;
             Ok(Answer {
                 status: SEEDS_EXHAUSTED,

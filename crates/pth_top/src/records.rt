@@ -3,13 +3,14 @@ ghost use Rattle.std.specs.Prelude.{◌≡◌, ◌↔◌, IfOk, IfSome, IsNone};
 ghost use Rattle.pthash.specs.Records.{records_of};
 ghost use Rattle.bucket_map.specs.Clash.{HasDistinctPairs, HasDistinctOrdinals, IsLeastClash};
 
+use crate::answer::NoMemory;
 use bucket_map::{Record, least_clash};
 use murmur64::hash_pair;
 use pth_outside::KeyList;
-use std::alloc::{AllocError, Global};
+use std::alloc::Global;
 
 /// The records of the keys at a seed.
-pub fn records_of_keys(alloc: Global, keys: &KeyList, seed: u64) -> Result<Vec<Record>, AllocError>
+pub fn records_of_keys(alloc: Global, keys: &KeyList, seed: u64) -> Result<Vec<Record>, NoMemory>
     ensures { IfOk result (λ records. records.items ≡ records_of keys.now seed) }
 {
     let mut records = Vec::with_capacity(alloc, keys.len() as usize)?;
@@ -25,7 +26,7 @@ pub fn records_of_keys(alloc: Global, keys: &KeyList, seed: u64) -> Result<Vec<R
 }
 
 /// The first record that repeats an earlier one's pair of hashes, by both ordinals, the earlier one first.
-pub fn first_clash(alloc: Global, records: &[Record]) -> Result<Option<(u64, u64)>, AllocError>
+pub fn first_clash(alloc: Global, records: &[Record]) -> Result<Option<(u64, u64)>, NoMemory>
     ensures none { IfOk result (λ clash. IsNone clash ↔ HasDistinctPairs records.now) }
     ensures least { HasDistinctOrdinals records.now →
         IfOk result (λ clash. IfSome clash (λ c. IsLeastClash records.now c.0 c.1)) }

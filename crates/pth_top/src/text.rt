@@ -4,10 +4,11 @@ ghost use Rattle.pth_top.specs.Built.{part_data};
 ghost use Rattle.pth_top.specs.Pilots.{parts_lines};
 ghost use Rattle.pth_top.specs.Texts.{cause_line, cause_lines, kind_name, part_lines, refused_word, repeated_key, same_hash_line, seed_lines, seeds_exhausted, spaced, stuck_line, too_long, too_many};
 
-use crate::partition::Part;
-use bucket_map::{Shape, table_size};
+use crate::partition::Partition;
+use bucket_map::table_size;
 use build_outcome::Cause;
 use command_words::{WordFault, kinds};
+use settings::Shape;
 use std::alloc::{AllocError, Global};
 use std::fmt::Write;
 
@@ -41,17 +42,17 @@ fn push_seed(text: &mut String, seed: u64, keys: u64) -> Result<(), AllocError>
 }
 
 // Appends the two lines of a partition.
-fn push_part(
+fn push_partition(
     text: &mut String,
-    part: u64,
+    number: u64,
     keys: u64,
     size: u64,
     pilots: &[u64],
 ) -> Result<(), AllocError>
     ensures { OnOk result
-        (string_bytes text.new ≡ string_bytes text.old ++ part_lines part keys size pilots.now) }
+        (string_bytes text.new ≡ string_bytes text.old ++ part_lines number keys size pilots.now) }
 {
-    push_number(text, "part ", part)?;
+    push_number(text, "part ", number)?;
     push_number(text, " keys ", keys)?;
     push_number(text, " size ", size)?;
     push_number(text, " buckets ", pilots.len() as u64)?;
@@ -71,12 +72,12 @@ fn push_place(text: &mut String, label: &str, place: u64) -> Result<(), AllocErr
 }
 
 // Appends the line on a seed at which a bucket has no pilot.
-fn push_stuck(text: &mut String, seed: u64, part: u32, bucket: u64) -> Result<(), AllocError>
+fn push_stuck(text: &mut String, seed: u64, partition: u32, bucket: u64) -> Result<(), AllocError>
     ensures { OnOk result
-        (string_bytes text.new ≡ string_bytes text.old ++ stuck_line seed part bucket) }
+        (string_bytes text.new ≡ string_bytes text.old ++ stuck_line seed partition bucket) }
 {
     push_number(text, "seed ", seed)?;
-    push_number(text, ": part ", part as u64)?;
+    push_number(text, ": part ", partition as u64)?;
     push_number(text, " bucket ", bucket)?;
     text.push_str(" has no pilot\n")?;
     Ok(())
@@ -118,13 +119,17 @@ fn push_causes(text: &mut String, seeds: &[u64], causes: &[Cause]) -> Result<(),
 }
 
 // Appends the lines of all partitions.
-fn push_parts(text: &mut String, shape: Shape, parts: &[Part]) -> Result<(), AllocError>
+fn push_partitions(
+    text: &mut String,
+    shape: Shape,
+    partitions: &[Partition],
+) -> Result<(), AllocError>
     ensures { OnOk result (string_bytes text.new
-        ≡ string_bytes text.old ++ parts_lines shape.alpha 0 (map part_data parts.now)) }
+        ≡ string_bytes text.old ++ parts_lines shape.alpha 0 (map part_data partitions.now)) }
 {
-    for (number, part) in parts.iter().enumerate() {
-        let size = table_size(part.keys, shape.alpha);
-        push_part(text, number as u64, part.keys, size, &part.pilots)?;
+    for (number, partition) in partitions.iter().enumerate() {
+        let size = table_size(partition.n, shape.alpha);
+        push_partition(text, number as u64, partition.n, size, &partition.pilots)?;
     }
     Ok(())
 }
@@ -132,21 +137,21 @@ fn push_parts(text: &mut String, shape: Shape, parts: &[Part]) -> Result<(), All
 /// The pilots of n keys, partition by partition.
 pub fn built_text(
     alloc: Global,
-    n: u64,
     seed: u64,
-    parts: &[Part],
+    n: u64,
+    partitions: &[Partition],
     shape: Shape,
 ) -> Result<String, AllocError>
     ensures { IfOk result (λ text. string_bytes text
-        ≡ seed_lines seed n ++ parts_lines shape.alpha 0 (map part_data parts.now)) }
+        ≡ seed_lines seed n ++ parts_lines shape.alpha 0 (map part_data partitions.now)) }
 {
     let mut text = String::new(alloc);
     push_seed(&mut text, seed, n)?;
-    push_parts(&mut text, shape, parts)?;
+    push_partitions(&mut text, shape, partitions)?;
     Ok(text)
 }
 
-/// The refusal of a list for which no seed led to an end.
+/// The refusal of a list for which no seed succeeds.
 pub fn exhausted_text(alloc: Global, seeds: &[u64], causes: &[Cause]) -> Result<String, AllocError>
     ensures { IfOk result (λ text.
         string_bytes text ≡ seeds_exhausted ++ cause_lines seeds.now causes.now) }

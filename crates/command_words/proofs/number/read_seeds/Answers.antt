@@ -16,8 +16,8 @@ loop-piece-preserved c =
     let more = one_more_seed (pieces_of c.args.text.now) (length c.loop-piece.yielded) c.in-Some-number.seed c.in-Some.piece.now c.loop-piece.seeds.items _ at c.in-Some-number.ensures.value c.loop-piece.invariant in
     rw (length_push c.loop-piece.yielded c.in-Some.piece, c.in_ok-push.ensures.items) more
 
-pub returns-then-len-gt-MOST_SEEDS : goal.returns-then-len-gt-MOST_SEEDS
-returns-then-len-gt-MOST_SEEDS c =
+pub returns-then-len-gt-MAX_SEEDS : goal.returns-then-len-gt-MAX_SEEDS
+returns-then-len-gt-MAX_SEEDS c =
     let end = YieldsList-end (YieldsList-from_str_split 44 c.args.text.now (lit< tt) (cc) (cc) (cc)) c.loop-piece.yielded _ c.loop-piece.yielded_by _ _ c.in-None.is c.next.ensures.steps in
     many c.args.text.now (length c.loop-piece.yielded) c.loop-piece.seeds.items (omega (arith, end.1)) c.loop-piece.invariant (omega (arith, c.len.ensures))
 

@@ -1,7 +1,6 @@
 use Rattle.std.proofs.Common.{◌≡◌, ◌+◌, sym, subst, arith, Ok, Err}
-use Rattle.command_words.specs.Chosen.{chosen_values}
 use Rattle.command_words.specs.Refusals.{IfBad}
-use Rattle.command_words.specs.Settings.{with_word, nothing_given}
+use Rattle.command_words.specs.Settings.{chosen_values, with_word, nothing_given}
 use Rattle.command_words.specs.Options.{words_of}
 use Rattle.command_words.specs.Words.{fault_at, given_by}
 use Rattle.command_words.proofs.SettingWords.{given_by-next, given_by-stop, given_by-end, refused_with}

@@ -1,7 +1,6 @@
 use Rattle.std.proofs.Common.{◌≡◌, ◌+◌, drop}
-use Rattle.command_words.specs.Chosen.{chosen_values}
 use Rattle.command_words.specs.Options.{words_of}
-use Rattle.command_words.specs.Settings.{nothing_given}
+use Rattle.command_words.specs.Settings.{chosen_values, nothing_given}
 use Rattle.command_words.specs.Words.{given_by}
 use Rattle.command_words.proofs.words.read_settings.Given as goal
 

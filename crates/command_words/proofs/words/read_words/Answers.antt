@@ -1,9 +1,9 @@
-use Rattle.std.proofs.Common.{◌≡◌, Ok, Err, sym, subst, ◌∙◌}
+use Rattle.std.proofs.Common.{◌≡◌, Ok, Err, sym, ap, subst, ◌∙◌}
 use Rattle.std.specs.Prelude.{IfOk, IfErr}
-use Rattle.command_words.specs.Options.{words_of, data_of}
+use Rattle.command_words.specs.Options.{words_of}
 use Rattle.command_words.specs.Refusals.{IfBad}
-use Rattle.command_words.specs.Words.{command_of}
-use Rattle.command_words.proofs.Commands.{command_of-nothing, command_of-pilots, command_of-unknown}
+use Rattle.command_words.specs.Words.{command_data, name_of, command_of}
+use Rattle.command_words.proofs.Commands.{command_of-nothing, command_of-named}
 use Rattle.command_words.proofs.words.read_words.Goals as goal
 
 pub returns-in_default-clause-bad : goal.returns-in_default-clause-bad
@@ -11,18 +11,20 @@ returns-in_default-clause-bad c =
     subst (IfBad (λ fault. command_of (words_of c.args.words.now) ≡ Err fault)) (sym c.bad.ensures)
     (command_of-nothing c.args.words.now c.in_default.ensures.cases)
 
-pub returns-in-pilots-clause-ok : goal.returns-in-pilots-clause-ok
-returns-in-pilots-clause-ok c =
-    let pilots = command_of-pilots c.args.words.now c.in-Some.command.now c.in-Some.rest.now c.in-Some.ensures.cases.0 (sym c.as_str.ensures.value ∙ c.in-pilots.is) in
-    subst (λ d. IfOk c.read_pilots.result (λ command. d ≡ Ok (data_of command))) (sym pilots) c.read_pilots.ensures.ok
+pub returns-in_default-name_in-clause-bad : goal.returns-in_default-name_in-clause-bad
+returns-in_default-name_in-clause-bad c =
+    let none = command_of-named c.args.words.now c.in-Some.command.now c.in-Some.rest.now _ c.in-Some.ensures.cases.0
+    (sym c.in_default-name_in.is ∙ c.name_in.ensures ∙ ap name_of c.deref.ensures) in
+    subst (IfBad (λ fault. command_of (words_of c.args.words.now) ≡ Err fault)) (sym c.bad-in_default-name_in.ensures) none
 
-pub returns-in-pilots-clause-bad : goal.returns-in-pilots-clause-bad
-returns-in-pilots-clause-bad c =
-    let pilots = command_of-pilots c.args.words.now c.in-Some.command.now c.in-Some.rest.now c.in-Some.ensures.cases.0 (sym c.as_str.ensures.value ∙ c.in-pilots.is) in
-    subst (λ d. IfErr c.read_pilots.result (IfBad (λ fault. d ≡ Err fault))) (sym pilots) c.read_pilots.ensures.bad
+pub returns-clause-ok : goal.returns-clause-ok
+returns-clause-ok c =
+    let named = command_of-named c.args.words.now c.in-Some.command.now c.in-Some.rest.now _ c.in-Some.ensures.cases.0
+    (sym c.in-Some-name_in.is ∙ c.name_in.ensures ∙ ap name_of c.deref.ensures) in
+    subst (λ d. IfOk c.read_command.result (λ command. d ≡ Ok (command_data command))) (sym named) c.read_command.ensures.ok
 
-pub returns-in_default-as_str-clause-bad : goal.returns-in_default-as_str-clause-bad
-returns-in_default-as_str-clause-bad c =
-    let unknown = command_of-unknown c.args.words.now c.in-Some.command.now c.in-Some.rest.now c.in-Some.ensures.cases.0
-    (λ is. c.in_default-as_str.not-pilots (c.as_str.ensures.value ∙ is)) in
-    subst (IfBad (λ fault. command_of (words_of c.args.words.now) ≡ Err fault)) (sym c.bad-in_default-as_str.ensures) unknown
+pub returns-clause-bad : goal.returns-clause-bad
+returns-clause-bad c =
+    let named = command_of-named c.args.words.now c.in-Some.command.now c.in-Some.rest.now _ c.in-Some.ensures.cases.0
+    (sym c.in-Some-name_in.is ∙ c.name_in.ensures ∙ ap name_of c.deref.ensures) in
+    subst (λ d. IfErr c.read_command.result (IfBad (λ fault. d ≡ Err fault))) (sym named) c.read_command.ensures.bad

@@ -1,5 +1,5 @@
 use Rattle.std.proofs.Common.{lit<}
-use Rattle.command_words.specs.Chosen.{chosen_values}
+use Rattle.command_words.specs.Settings.{chosen_values}
 use Rattle.command_words.proofs.Cuts.{no_cut, one_cut}
 use Rattle.command_words.proofs.SettingWords.{with_word-uncut, with_word-unnamed, with_word-named}
 use Rattle.command_words.proofs.chosen.Chosen.take_word.Goals as goal
