@@ -43,8 +43,8 @@ class Checks:
 
 
 def until(holds):
-    """Waits until something holds, for some seconds at most."""
-    end = time.monotonic() + WAIT
+    """Waits until something holds, for a second at most."""
+    end = time.monotonic() + 1
     while not holds() and time.monotonic() < end:
         time.sleep(0.001)
 
@@ -57,8 +57,11 @@ def held(pipe):
 
 
 def feed(pipe, data):
-    with open(pipe, "wb", closefd=True) as into:
-        into.write(data)
+    try:
+        with open(pipe, "wb") as into:
+            into.write(data)
+    except BrokenPipeError:
+        pass
 
 
 def key_files(checks, text):
