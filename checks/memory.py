@@ -1,9 +1,9 @@
 #!/usr/bin/env python3
-"""Runs the built program on long words under rising limits of memory.
+"""Runs the built program on long words under rising limits of memory, and on words that are no text.
 
 usage: memory.py PROGRAM
 
-Each run fails to start, says that it has no memory, or answers as without a limit; some must say that they have none.
+Under a limit each run fails to start, says that it has no memory, or answers as without one; some must say that they have none.
 """
 import collections
 import pathlib
@@ -16,13 +16,13 @@ STEP = 1 << 16
 MOST = 1 << 25
 
 
-def run(program, limit):
+def run(program, words, limit):
     """The status and the text under a limit of the address space, or `None` where the program didn't start."""
     def hold():
         resource.setrlimit(resource.RLIMIT_AS, (limit, limit))
 
     try:
-        found = subprocess.run([program, *WORDS], stdout=subprocess.PIPE, stderr=subprocess.DEVNULL, preexec_fn=hold, timeout=20)
+        found = subprocess.run([program, *words], stdout=subprocess.PIPE, stderr=subprocess.DEVNULL, preexec_fn=hold, timeout=20)
     except (OSError, subprocess.SubprocessError):
         return None
     started = 0 <= found.returncode < 127
@@ -31,11 +31,11 @@ def run(program, limit):
 
 def main():
     program = str(pathlib.Path(sys.argv[1]).resolve())
-    right = run(program, resource.RLIM_INFINITY)
+    right = run(program, WORDS, resource.RLIM_INFINITY)
     want = (9, b"no memory\n")
     answers = collections.Counter()
     for limit in range(STEP, MOST, STEP):
-        answer = run(program, limit)
+        answer = run(program, WORDS, limit)
         answers[answer] += 1
         if answer == right:
             break
@@ -46,6 +46,10 @@ def main():
     if not answers[want] or not answers[right]:
         failed += 1
         print(f"no run had too little memory, or none had enough: {answers}")
+    no_text = run(program, [b"pilots", b"\xff"], resource.RLIM_INFINITY)
+    if no_text != (1, b"word 0: command\n"):
+        failed += 1
+        print(f"words that are no text: {no_text}")
     print(f"limits of memory: {answers[want]} without memory, {answers[None]} without a start, {failed} failed")
     return 1 if failed else 0
 
