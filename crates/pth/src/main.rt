@@ -1,35 +1,78 @@
 //! The program `pth`: its words, the files of the disk and standard output, handed to `pth_top::run`.
 #![tactic(auto)]
 
+ghost use Rattle.std.specs.Prelude.{◌≡◌, ◌≢◌, Err, IfErr, IsErr};
+ghost use Rattle.std.specs.IoError.{error_kind};
+ghost use Rattle.command_words.specs.Words.{fault_at};
+ghost use Rattle.command_words.specs.declared.kinds.TheConstants.{COMMAND};
+ghost use Rattle.pth_outside.specs.Sink.{WritesFront};
+ghost use Rattle.pth_top.specs.Ending.{EndsAs};
+ghost use Rattle.pth_top.specs.Texts.{no_memory};
+ghost use Rattle.pth_top.specs.Words.{refused};
+
 mod disk_files;
+mod handles;
 mod std_sink;
 
 use disk_files::DiskFiles;
+use pth_outside::{Files, Sink};
 use pth_top::run;
+use std::alloc::Global;
+use std::env::Args;
+use std::io::ErrorKind;
 use std::process::ExitCode;
-use std::rt::Env;
 use std::{env, io};
 use std_sink::StdSink;
 
-// The words after the program's name. Words that are no text are an error as a whole.
-fn words<R: Env + AllocGlobal>(rt: &R) -> io::Result<Vec<String>> {
-    let mut words = Vec::new(rt.alloc());
-    for word in env::args(rt)?.skip(1) {
+// The status of a want of memory.
+const NO_MEMORY: u8 = 9;
+
+fn main(rt: HostRuntime) -> ExitCode {
+    let mut files = DiskFiles::new(&rt);
+    let mut out = StdSink::new(&rt);
+    let args = env::args(&rt);
+    ExitCode::from(answer(&rt, rt.alloc(), args, &mut files, &mut out))
+}
+
+// Does what the words ask for that the system gave after the program's name, and answers the status.
+fn answer<R, F: Files, O: Sink>(
+    rt: &R,
+    alloc: Global,
+    args: io::Result<Args>,
+    files: &mut F,
+    out: &mut O,
+) -> u8
+    ensures want { IfErr args (λ e. error_kind e ≡ ErrorKind.OutOfMemory → result ≡ NO_MEMORY) }
+    ensures no_text { IfErr args (λ e. error_kind e ≢ ErrorKind.OutOfMemory → result ≢ NO_MEMORY →
+        EndsAs (refused (fault_at 0 COMMAND)) result (O.told out.old) (O.told out.new) (O.faults out.old) (O.faults out.new)) }
+    ensures text { IsErr args → result ≡ NO_MEMORY →
+        WritesFront no_memory (O.told out.old) (O.told out.new) }
+    ensures no_call { IsErr args → files.new ≡ files.old }
+{
+    match words_after(alloc, args) {
+        Ok(words) => run(rt, alloc, &words, files, out),
+        Err(e) if e.kind() == ErrorKind::OutOfMemory => show_want(out),
+        // No words can be told apart here, so what is refused is one that names no command.
+        Err(_) => run(rt, alloc, &[String::new(alloc)], files, out),
+    }
+}
+
+// The words after the program's name.
+fn words_after(alloc: Global, args: io::Result<Args>) -> io::Result<Vec<String>>
+    ensures { IfErr args (λ e. result ≡ Err e) }
+{
+    let mut words = Vec::new(alloc);
+    for word in args?.skip(1) {
         words.push(word)?;
     }
     Ok(words)
 }
 
-fn main(rt: HostRuntime) -> ExitCode {
-    let mut files = DiskFiles::new(&rt);
-    let mut out = StdSink::new(&rt);
-    let status = match words(&rt) {
-        Ok(words) => run(&rt, rt.alloc(), &words, &mut files, &mut out),
-        // No words can be told apart here, so what is refused is one that names no command.
-        Err(_) => {
-            let unknown = [String::new(rt.alloc())];
-            run(&rt, rt.alloc(), &unknown, &mut files, &mut out)
-        }
-    };
-    ExitCode::from(status)
+// Says that memory ran out, if the sink takes it.
+fn show_want<O: Sink>(out: &mut O) -> u8
+    ensures status { result ≡ NO_MEMORY }
+    ensures text { WritesFront no_memory (O.told out.old) (O.told out.new) }
+{
+    let _ = out.write(b"no memory\n");
+    NO_MEMORY
 }

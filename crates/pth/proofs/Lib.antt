@@ -1,0 +1,2 @@
+mod NoText
+mod Writes
