@@ -1,17 +1,16 @@
 -- An attempt all of whose partitions end well has no clash, so it may be read without looking for one.
-use Rattle.std.specs.Prelude.{◌≡◌, ℕ, ◌<◌, ◌≤◌, Bool, true, false, ◌&&◌, ◌==◌, List, length, slice_index_or, Option, Some, None, Result, Ok, Err}
-use Rattle.std.proofs.Common.{refl, sym, ap, ◌∙◌, subst, arith}
+use Rattle.std.specs.Prelude.{◌≡◌, ℕ, Bool, true, ◌&&◌, ◌==◌, List, length, slice_index_or, Option, Some, None, Result, Ok, Err}
+use Rattle.std.proofs.Common.{refl, sym, ap, ◌∙◌, arith}
 use Rattle.std.proofs.lemmas.Bool.{and_parts, eqb-true}
 use Rattle.pthash.specs.declared.Record.{Record}
 use Rattle.pthash.specs.Apart.{are_apart, are_apart-by_images, are_apart-at}
 use Rattle.pthash.specs.Partitions.{partitions_of}
 use Rattle.pthash.specs.Records.{records_of}
 use Rattle.pthash.specs.RecordLaws.{record_at_place, length-records_of, get_or-records_of, All-HashesFit-records_of}
-use Rattle.build_outcome.specs.Attempt.{Rules, Attempt, stuck, complete, by_parts, unless_clash, attempt_of, parts_from}
-use Rattle.build_outcome.specs.Clash.{key_at, is_twin, clash_of}
+use Rattle.build_outcome.specs.Attempt.{Rules, AreRules, stuck, complete, by_parts, unless_clash, attempt_of, parts_from}
+use Rattle.build_outcome.specs.Clash.{key_at, clash_of}
 use Rattle.build_outcome.specs.ClashLaws.{clash_of-none}
 use Rattle.build_outcome.specs.Index.{PartData}
-use Rattle.build_outcome.specs.PartLaws.{AreRules}
 use Rattle.build_outcome.specs.ValueLaws.{HasParts, record_number, record_numbers_differ}
 
 -- the partitions of a list of keys at a seed, or the first that is stuck

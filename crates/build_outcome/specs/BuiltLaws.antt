@@ -1,18 +1,17 @@
 -- What is known of a list of keys for which an index was built.
-use Rattle.std.specs.Prelude.{◌≡◌, ◌≢◌, ℕ, zero, suc, ◌+◌, ◌^◌, ◌<◌, ◌≤◌, Bool, true, false, cond}
+use Rattle.std.specs.Prelude.{◌≡◌, ◌≢◌, ℕ, suc, ◌^◌, ◌<◌, ◌≤◌, Bool, true, false, cond}
 use Rattle.std.specs.Prelude.{List, [], ◌∷◌, ◌++◌, length, slice_index, bytes_eq, All}
-use Rattle.std.proofs.Common.{refl, sym, ap, ◌∙◌, subst, arith}
+use Rattle.std.proofs.Common.{refl, ap, subst, arith}
 use Rattle.pthash.specs.declared.TheConstants.{MAX_KEYS}
 use Rattle.build_outcome.specs.declared.Cause.{Cause}
 use Rattle.build_outcome.specs.declared.Cause.TheVariants.{SameHash, Stuck}
-use Rattle.build_outcome.specs.Attempt.{Rules, Attempt, clashed, stuck, complete, attempt_of}
+use Rattle.build_outcome.specs.Attempt.{Rules, AreRules, Attempt, clashed, stuck, complete, attempt_of}
 use Rattle.build_outcome.specs.AttemptLaws.{complete-parts}
 use Rattle.build_outcome.specs.Clash.{key_at}
 use Rattle.build_outcome.specs.Index.{PartData, IndexData}
 use Rattle.build_outcome.specs.IndexLaws.{IsOneToOne, index_of-IsOneToOne, values_differ}
-use Rattle.build_outcome.specs.Outcome.{Outcome, repeated, exhausted, built, index_of, after_attempt, outcome_from, outcome_of}
+use Rattle.build_outcome.specs.Outcome.{Outcome, repeated, built, index_of, after_attempt, outcome_from, outcome_of}
 use Rattle.build_outcome.specs.OutcomeLaws.{IsRepeat, repeated_key}
-use Rattle.build_outcome.specs.PartLaws.{AreRules}
 use Rattle.build_outcome.specs.Validity.{IsValidIndex}
 use Rattle.build_outcome.specs.ValidityLaws.{index_of-IsValidIndex}
 use Rattle.build_outcome.specs.Values.{value_of}
@@ -73,7 +72,7 @@ built-IsValidIndex rules keys seeds x ranges seeds_fit some few is =
     let seed : ℕ = slice_index seeds from.place in
     subst IsValidIndex from.is
     (index_of-IsValidIndex rules keys seed from.parts ranges (seeds_fit from.place 0 from.within) some few
-      (complete-parts rules keys seed from.parts from.ends))
+    (complete-parts rules keys seed from.parts from.ends))
 
 -- no key of the list comes twice
 abbrev pub AreDistinctKeys : List (List ℕ) → Type 0

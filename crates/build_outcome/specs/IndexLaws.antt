@@ -1,9 +1,9 @@
 -- The index of a complete attempt is one-to-one: its keys have pairwise different values below their number.
-use Rattle.std.specs.Prelude.{◌≡◌, ◌≢◌, ℕ, ◌+◌, ◌<◌, ◌≤◌, Bool, true, false, List, [], ◌∷◌, length, map, take, slice_index, slice_index_or, Option, Some, None, option_map, IsSomeAnd, All, Ok}
+use Rattle.std.specs.Prelude.{◌≡◌, ◌≢◌, ℕ, ◌+◌, ◌<◌, true, List, [], length, map, take, slice_index_or, Some, option_map, IsSomeAnd, All, Ok}
 use Rattle.std.specs.Option.{unwrap_or}
-use Rattle.std.proofs.Common.{refl, sym, ap, ◌∙◌, subst, arith}
+use Rattle.std.proofs.Common.{sym, ap, ◌∙◌, subst, arith}
 use Rattle.std.proofs.lemmas.Grind.{same_number_lists}
-use Rattle.std.proofs.lemmas.List.{length-map, get_or-map, get_or_default}
+use Rattle.std.proofs.lemmas.List.{length-map, get_or-map}
 use Rattle.std.proofs.lemmas.List.Elements.{All-from_get_or}
 use Rattle.pthash.specs.declared.Record.{Record}
 use Rattle.pthash.specs.DistinctLaws.{is_distinct-at}
@@ -12,13 +12,13 @@ use Rattle.pthash.specs.Records.{records_of}
 use Rattle.pthash.specs.RecordLaws.{record_at_place, length-records_of, get_or-records_of}
 use Rattle.pthash.specs.Search.{is_distinct}
 use Rattle.pthash.specs.Sizes.{partition_of}
-use Rattle.build_outcome.specs.Attempt.{Rules}
+use Rattle.build_outcome.specs.Attempt.{Rules, AreRules}
 use Rattle.build_outcome.specs.AttemptLaws.{parts_of, parts_of-HasParts}
 use Rattle.build_outcome.specs.Clash.{key_at}
 use Rattle.build_outcome.specs.Index.{PartData, IndexData}
 use Rattle.build_outcome.specs.Outcome.{index_of}
-use Rattle.build_outcome.specs.PartLaws.{AreRules, part_value-some}
-use Rattle.build_outcome.specs.ValueLaws.{HasParts, part_number, number_within, record_number, length-parts, part_has_key, key_count-records}
+use Rattle.build_outcome.specs.PartLaws.{part_value-some}
+use Rattle.build_outcome.specs.ValueLaws.{HasParts, part_number, record_number, length-parts, part_has_key}
 use Rattle.build_outcome.specs.ValueLaws.{record_number-below, record_numbers_differ}
 use Rattle.build_outcome.specs.Values.{part_at, part_value, key_count, pair_value, value_of}
 

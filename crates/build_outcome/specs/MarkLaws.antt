@@ -12,7 +12,6 @@ use Rattle.std.proofs.lemmas.List.Sorted.{IsPermutation-keeps, sum_by-IsPermutat
 use Rattle.std.proofs.lemmas.Nat.{xor_comm, xor_lt}
 use Rattle.pthash.specs.Hash.{first_hash, second_hash}
 use Rattle.pthash.specs.HashLaws.{hash_of-lt}
-use Rattle.build_outcome.specs.Index.{KeyMarkData}
 use Rattle.build_outcome.specs.Mark.{xor_of, mark_of}
 use Rattle.build_outcome.specs.Validity.{IsMark}
 

@@ -17,10 +17,12 @@ pub record IsRepeat (keys : List (List ℕ)) (i j : ℕ) : Type 0 where
   pub places : IsEarlierIn keys i j
   pub equal : key_at keys i ≡ key_at keys j
 
+-- the partitions alone never clash
 parts_do_not_clash : (parts : Result (List PartData) (ℕ × ℕ)) (i j : ℕ) → ¬ (by_parts parts ≡ clashed i j)
 parts_do_not_clash (Ok parts) i j same = cc
 parts_do_not_clash (Err e) i j same = cc
 
+-- where an attempt clashes, the list has that clash
 clash_of_attempt : (clash : Option (ℕ × ℕ)) (parts : Result (List PartData) (ℕ × ℕ)) (i j : ℕ)
     → unless_clash clash (by_parts parts) ≡ clashed i j → clash ≡ Some (i, j)
 clash_of_attempt None parts i j same = absurd (parts_do_not_clash parts i j same)
@@ -41,12 +43,14 @@ RepeatsKey keys (repeated i j) = IsRepeat keys i j
 RepeatsKey keys (exhausted causes) = Unit {0}
 RepeatsKey keys (built x) = Unit {0}
 
+-- a repeated key, or what comes later
 repeat_or_on : (keys : List (List ℕ)) (i j : ℕ) (test : Bool) (later : Outcome) → bytes_eq (key_at keys i) (key_at keys j) ≡ test
     → IsEarlierIn keys i j → RepeatsKey keys later → RepeatsKey keys (cond test (repeated i j) later)
 repeat_or_on keys i j true later same places more =
     record { places = places; equal = (bytes_eq-Decides (key_at keys i) (key_at keys j)).0 same }
 repeat_or_on keys i j false later other places more = more
 
+-- the same after an attempt
 after_repeats : (rules : Rules) (keys : List (List ℕ)) (seed : ℕ) (go_on : Cause → Outcome) (attempt : Attempt) → attempt_of rules keys seed ≡ attempt
     → ((cause : Cause) → RepeatsKey keys (go_on cause)) → RepeatsKey keys (after_attempt rules keys seed go_on attempt)
 after_repeats rules keys seed go_on (clashed i j) is more =
@@ -55,6 +59,7 @@ after_repeats rules keys seed go_on (clashed i j) is more =
 after_repeats rules keys seed go_on (stuck part bucket) is more = more (Stuck part bucket)
 after_repeats rules keys seed go_on (complete parts) is more = tt
 
+-- it holds of each outcome
 outcome_repeats : (rules : Rules) (keys : List (List ℕ)) (causes : List Cause) (seeds : List ℕ) → RepeatsKey keys (outcome_from rules keys causes seeds)
 outcome_repeats rules keys causes [] = tt
 outcome_repeats rules keys causes (seed ∷ seeds) =

@@ -9,7 +9,6 @@ use Rattle.std.proofs.lemmas.List.Folds.{list_all-map}
 use Rattle.std.proofs.lemmas.Simd.{map-map}
 use Rattle.pthash.specs.declared.Map.{Map}
 use Rattle.pthash.specs.declared.Record.{Record}
-use Rattle.pthash.specs.declared.TheConstants.{MAX_PARTITIONS, MAX_PILOTS}
 use Rattle.pthash.specs.Apart.{is_distinct-map_where}
 use Rattle.pthash.specs.ByBucket.{pilot_by_number}
 use Rattle.pthash.specs.ByBucketLaws.{length-pilots_by_number, get_or-pilots_by_number}
@@ -24,13 +23,6 @@ use Rattle.build_outcome.specs.Attempt.{Rules, partition_plan, completed, search
 use Rattle.build_outcome.specs.FreeListLaws.{TakesCount, length-free_list_of, position_value-below, position_value-differs}
 use Rattle.build_outcome.specs.Index.{PartData}
 use Rattle.build_outcome.specs.Values.{part_size, position_value, pair_position, part_value}
-
--- rules in their ranges
-pub record AreRules (rules : Rules) : Type 0 where
-  pub shape : IsShape rules.shape
-  pub some_part : 1 ≤ rules.parts
-  pub few_parts : rules.parts ≤ MAX_PARTITIONS
-  pub few_pilots : rules.limit ≤ MAX_PILOTS
 
 -- the number of buckets of these records
 abbrev pub bucket_count : Rules → List Record → ℕ
@@ -86,6 +78,7 @@ record IsKnown (rules : Rules) (seed : ℕ) (records : List Record) (state : Sea
   reached : IsReached (partition_plan rules seed records) (length (partition_plan rules seed records).buckets) state
   buckets : AreBucketsOf (bucket_number rules records) records (partition_plan rules seed records).buckets
 
+-- all of it holds where the search ended
 known : (rules : Rules) (seed : ℕ) (records : List Record) (state : SearchState) → IsFinished rules seed records state → IsKnown rules seed records state
 known rules seed records state finished =
     let shape = finished.shape in

@@ -1,13 +1,12 @@
 -- The index of a complete attempt is valid.
-use Rattle.std.specs.Prelude.{◌≡◌, ℕ, zero, suc, ◌+◌, ◌-◌, ◌^◌, ◌<◌, ◌≤◌, Bool, true, false, cond, ◌==◌}
-use Rattle.std.specs.Prelude.{List, [], ◌∷◌, length, map, filter, count_by, slice_index, slice_index_or, Option, Some, None, Ok, All, IfSome}
+use Rattle.std.specs.Prelude.{◌≡◌, ℕ, ◌^◌, ◌<◌, ◌≤◌, true, false, cond, ◌==◌}
+use Rattle.std.specs.Prelude.{List, [], ◌∷◌, length, Ok, All}
 use Rattle.std.specs.FinSet.{contains}
-use Rattle.std.specs.List.Sorted.{IsNonDecreasing}
-use Rattle.std.proofs.Common.{refl, sym, ap, ◌∙◌, subst, arith, ⊎_elim}
+use Rattle.std.proofs.Common.{sym, ap, ◌∙◌, subst, arith, ⊎_elim}
 use Rattle.std.proofs.lemmas.Bool.{cases_lt}
 use Rattle.std.proofs.lemmas.List.{nil_from_length}
-use Rattle.std.proofs.lemmas.List.Elements.{All-head, All-tail, All-map, All-nil, All-from_get_or}
-use Rattle.std.proofs.lemmas.List.Sums.{length-filter, count_by-le-length, get_or-le-sum_by}
+use Rattle.std.proofs.lemmas.List.Elements.{All-head, All-tail, All-nil, All-from_get_or}
+use Rattle.std.proofs.lemmas.List.Sums.{length-filter, count_by-le-length}
 use Rattle.pthash.specs.declared.TheConstants.{MAX_KEYS, MAX_PILOTS}
 use Rattle.pthash.specs.declared.Record.{Record}
 use Rattle.pthash.specs.ByBucket.{pilot_by_number}
@@ -17,18 +16,17 @@ use Rattle.pthash.specs.Records.{records_of}
 use Rattle.pthash.specs.RecordLaws.{length-records_of}
 use Rattle.pthash.specs.Search.{SearchPlan, SearchState}
 use Rattle.pthash.specs.SearchLaws.{IsReached, finished_search}
-use Rattle.pthash.specs.Shapes.{ShapeData, IsShape}
-use Rattle.pthash.specs.Sizes.{table_size_of, bucket_count_of}
+use Rattle.pthash.specs.Shapes.{ShapeData}
 use Rattle.pthash.specs.SizeLaws.{table_size_of-some, table_size_of-none, bucket_count_of-none}
-use Rattle.build_outcome.specs.Attempt.{Rules, partition_plan, part_of}
+use Rattle.build_outcome.specs.Attempt.{Rules, AreRules, partition_plan, part_of}
 use Rattle.build_outcome.specs.AttemptLaws.{parts_of, parts_of-HasParts}
 use Rattle.build_outcome.specs.FreeListLaws.{free_list_of-rises, free_list_of-below}
-use Rattle.build_outcome.specs.Index.{PartData, IndexData}
+use Rattle.build_outcome.specs.Index.{PartData}
 use Rattle.build_outcome.specs.MarkLaws.{IsMark-mark_of}
 use Rattle.build_outcome.specs.Outcome.{index_of}
-use Rattle.build_outcome.specs.PartLaws.{AreRules, IsFinished, HasFinished, finished_part, bucket_count, part_of-some, part_of-none, part_size-finished}
+use Rattle.build_outcome.specs.PartLaws.{IsFinished, HasFinished, finished_part, bucket_count, part_of-some, part_of-none, part_size-finished}
 use Rattle.build_outcome.specs.ValueLaws.{HasParts, part_number, records_in, length-parts, part_of-records_in, key_count-records}
-use Rattle.build_outcome.specs.Values.{part_at, part_size}
+use Rattle.build_outcome.specs.Values.{part_at}
 use Rattle.build_outcome.specs.Validity.{IsValidPart, IsValidIndex}
 
 -- a pilot by number is one of the pilots, or 0

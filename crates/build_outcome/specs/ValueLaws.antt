@@ -15,10 +15,10 @@ use Rattle.pthash.specs.PartitionLaws.{length-partitions_of, partition_at, All-p
 use Rattle.pthash.specs.RecordLaws.{HashesFit}
 use Rattle.pthash.specs.Search.{is_distinct}
 use Rattle.pthash.specs.Sizes.{partition_of}
-use Rattle.build_outcome.specs.Attempt.{Rules, part_of, parts_from}
+use Rattle.build_outcome.specs.Attempt.{Rules, AreRules, part_of, parts_from}
 use Rattle.build_outcome.specs.AttemptParts.{ArePartsOf, parts_from-ArePartsOf, part_of-count, key_count-parts, key_count-later, key_count-all}
 use Rattle.build_outcome.specs.Index.{PartData}
-use Rattle.build_outcome.specs.PartLaws.{AreRules, HasFinished, part_of-some, pair_number, pair_numbers_differ, pair_number-below}
+use Rattle.build_outcome.specs.PartLaws.{HasFinished, part_of-some, pair_number, pair_numbers_differ, pair_number-below}
 use Rattle.build_outcome.specs.Values.{part_at, key_count}
 
 -- all partitions of these records ended well

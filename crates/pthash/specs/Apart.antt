@@ -16,6 +16,7 @@ are_apart test (x ∷ xs) = not (list_any (test x) xs) && are_apart test xs
 abbrev pub PassesLess : {A : Type 0} → (A → A → Bool) → (A → A → Bool) → Type 0
 PassesLess {A} test larger = (x y : A) → larger x y ≡ false → test x y ≡ false
 
+-- what fails the larger test fails the smaller
 none_of_less : {A : Type 0} (test larger : A → A → Bool) → PassesLess test larger → (x : A) (ys : List A)
     → list_any (larger x) ys ≡ false → list_any (test x) ys ≡ false
 none_of_less test larger less x [] none = refl
@@ -33,6 +34,7 @@ are_apart-less test larger less (x ∷ xs) apart =
     (not_from_false (list_any (test x) xs) (none_of_less test larger less x xs (not-true (list_any (larger x) xs) parts.0)))
     (are_apart-less test larger less xs parts.1)
 
+-- a number is among the images where an element has it as its image
 any_of_map : {A : Type 0} (f : A → ℕ) (n : ℕ) (xs : List A) → is_among (map f xs) n ≡ list_any (λ x. f x == n) xs
 any_of_map f n [] = refl
 any_of_map f n (x ∷ xs) = ap (λ b. f x == n || b) (any_of_map f n xs)
@@ -52,6 +54,7 @@ are_apart-by_images test f same xs distinct =
     (λ x y differ. false_from_ne_true (test x y) (λ passes. eqb-false (f y) (f x) differ (sym (same x y passes))))
     xs (sym (is_distinct-map f xs) ∙ distinct)
 
+-- the images under the function that changes nothing
 map_id : (xs : List ℕ) → map (λ x. x) xs ≡ xs
 map_id [] = refl
 map_id (x ∷ xs) = ap (λ ys. x ∷ ys) (map_id xs)
@@ -70,6 +73,7 @@ pub is_distinct-map_of_repeat : (f : ℕ → ℕ) (xs : List ℕ) → is_distinc
 is_distinct-map_of_repeat f xs twice =
     false_from_ne_true (is_distinct (map f xs)) (λ distinct. both_ways (is_distinct xs) twice (is_distinct-from_map f xs distinct))
 
+-- where none passes, the one at a place fails
 none_at : {A : Type 0} (test : A → Bool) (xs : List A) (k : ℕ) (d : A) → list_any test xs ≡ false → k < length xs → test (slice_index_or xs k d) ≡ false
 none_at test [] k d none within = absurd (omega arith)
 none_at test (x ∷ xs) zero d none within = (or_parts (test x) (list_any test xs) none).0

@@ -24,10 +24,6 @@ count_by-append {A} test xs ys = sum_by-append (λ (y : A). one_if (test y)) xs 
 pub count_by-push : {A : Type 0} (test : A → Bool) (xs : List A) (x : A) → count_by test (xs ++ x ∷ []) ≡ count_by test xs + one_if (test x)
 count_by-push {A} test xs x = sum_by_push (λ (y : A). one_if (test y)) xs x
 
--- tests that agree count the same
-pub count_by-agree : {A : Type 0} (test other : A → Bool) → ((x : A) → test x ≡ other x) → (xs : List A) → count_by test xs ≡ count_by other xs
-count_by-agree {A} test other same xs = ap (λ (f : A → Bool). count_by f xs) (λ i x. same x i)
-
 -- elements that each pass one of two tests, and never both
 pub count_by-either : {A : Type 0} (test first second : A → Bool) → ((x : A) → one_if (test x) ≡ one_if (first x) + one_if (second x)) → (xs : List A)
     → count_by test xs ≡ count_by first xs + count_by second xs

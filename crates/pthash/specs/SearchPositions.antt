@@ -4,10 +4,11 @@ use Rattle.std.specs.Prelude.{List, [], ◌∷◌, ◌++◌, length, map, filter
 use Rattle.std.specs.FinSet.{contains}
 use Rattle.std.specs.List.{list_all}
 use Rattle.std.proofs.Common.{refl, sym, ap, ◌∙◌, subst, arith, add-one, ⊎_elim}
-use Rattle.std.proofs.lemmas.Bool.{and_parts, and_from, not-true, or_left, or_right, cases_eq, eq-eqb, ne_eqb, lt-ltb}
-use Rattle.std.proofs.lemmas.List.{append_assoc, append-nil, take_more, take_all, length-take-le}
-use Rattle.std.proofs.lemmas.List.Folds.{list_any-append}
+use Rattle.std.proofs.lemmas.Bool.{and_parts, and_from, not-true, cases_eq, eq-eqb, ne_eqb, lt-ltb}
+use Rattle.std.proofs.lemmas.List.{get_or_default, append_assoc, append-nil, take_more, take_all, length-take-le}
+use Rattle.std.proofs.lemmas.List.Sums.{list_all-from_AllPass}
 use Rattle.pthash.specs.declared.Record.{Record}
+use Rattle.pthash.specs.DistinctLaws.{is_among-at}
 use Rattle.pthash.specs.Hash.{pilot_hash}
 use Rattle.pthash.specs.Order.{Bucket, bucket_at, numbers_below}
 use Rattle.pthash.specs.Search.{SearchPlan, SearchState, position_of, positions_of, is_among, is_distinct}
@@ -190,16 +191,11 @@ all_from_count test (x ∷ xs) none =
       | false ↦ λ some. absurd (omega arith)
     ] (sym (count_by-cons (λ y. not (test y)) x xs) ∙ none)
 
--- each element of a list is among a longer one
-all_among : (before xs : List ℕ) → list_all (is_among (before ++ xs)) xs ≡ true
-all_among before [] = refl
-all_among before (x ∷ xs) =
-    let here : is_among (before ++ x ∷ xs) x ≡ true =
-    list_any-append (λ y. y == x) before (x ∷ xs)
-    ∙ or_right (is_among before x) (x == x || is_among xs x) (or_left (x == x) (is_among xs x) (eq-eqb x x refl)) in
-    let moved : before ++ x ∷ xs ≡ (before ++ x ∷ []) ++ xs = sym (append_assoc before (x ∷ []) xs) in
-    and_from (is_among (before ++ x ∷ xs) x) (list_all (is_among (before ++ x ∷ xs)) xs) here
-    (subst (λ ys. list_all (is_among ys) xs ≡ true) (sym moved) (all_among (before ++ x ∷ []) xs))
+-- each number of a list is among them
+all_among : (xs : List ℕ) → list_all (is_among xs) xs ≡ true
+all_among xs =
+    list_all-from_AllPass (is_among xs) xs
+    (λ i d within. ap (is_among xs) (get_or_default xs i d 0 within) ∙ is_among-at xs i within)
 
 -- where all pass, the count of what fails is none
 count_from_all : (test : ℕ → Bool) (xs : List ℕ) → list_all test xs ≡ true → count_by (λ x. not (test x)) xs ≡ 0
@@ -216,7 +212,7 @@ pub found_are_taken : (plan : SearchPlan) (state : SearchState) (class : Record 
 found_are_taken plan state class records reached buckets =
     let all : List ℕ = first_positions plan state.pilots (length plan.buckets) in
     let same : contains state.taken ≡ is_among all = λ i p. reached.taken_are_theirs p i in
-    let none : count_by (λ p. not (is_among all p)) all ≡ 0 = count_from_all (is_among all) all (all_among [] all) in
+    let none : count_by (λ p. not (is_among all p)) all ≡ 0 = count_from_all (is_among all) all (all_among all) in
     let none_found : count_by (λ r. not (is_among all (found_position plan state class r))) records ≡ 0 =
     count_of_found plan state class records (λ p. not (is_among all p)) reached buckets ∙ none in
     subst (λ f. list_all (λ r. f (found_position plan state class r)) records ≡ true) (sym same)
