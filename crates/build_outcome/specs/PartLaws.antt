@@ -9,17 +9,20 @@ use Rattle.std.proofs.lemmas.List.Folds.{list_all-map}
 use Rattle.std.proofs.lemmas.Simd.{map-map}
 use Rattle.pthash.specs.declared.Map.{Map}
 use Rattle.pthash.specs.declared.Record.{Record}
+use Rattle.pthash.specs.declared.TheConstants.{MAX_KEYS}
 use Rattle.pthash.specs.Apart.{is_distinct-map_where}
 use Rattle.pthash.specs.ByBucket.{pilot_by_number}
 use Rattle.pthash.specs.ByBucketLaws.{length-pilots_by_number, get_or-pilots_by_number}
-use Rattle.pthash.specs.Search.{SearchPlan, SearchState, position_of, is_distinct, search_of}
+use Rattle.pthash.specs.Order.{order_of, member_count}
+use Rattle.pthash.specs.OrderLaws.{member_count-order_of, no_empty_bucket}
+use Rattle.pthash.specs.Search.{IsSearchable, SearchPlan, SearchState, position_of, is_distinct, search_of}
 use Rattle.pthash.specs.SearchLaws.{IsReached, finished_search}
 use Rattle.pthash.specs.SearchOrder.{AreBucketsOf-order_of}
 use Rattle.pthash.specs.SearchPositions.{AreBucketsOf, found_position, found_are_distinct, found_are_below, found_are_taken, count_of_taken}
 use Rattle.pthash.specs.Shapes.{IsShape}
 use Rattle.pthash.specs.Sizes.{table_size_of, bucket_count_of, bucket_of}
-use Rattle.pthash.specs.SizeLaws.{bucket_of-lt, le-table_size_of, table_size_of-some, bucket_count_of-some}
-use Rattle.build_outcome.specs.Attempt.{Rules, partition_plan, completed, searched, part_of}
+use Rattle.pthash.specs.SizeLaws.{bucket_of-lt, le-table_size_of, table_size_of-some, table_size_of-le, bucket_count_of-some}
+use Rattle.build_outcome.specs.Attempt.{Rules, AreRules, partition_plan, completed, searched, part_of}
 use Rattle.build_outcome.specs.FreeListLaws.{TakesCount, length-free_list_of, position_value-below, position_value-differs}
 use Rattle.build_outcome.specs.Index.{PartData}
 use Rattle.build_outcome.specs.Values.{part_size, position_value, pair_position, part_value}
@@ -31,6 +34,25 @@ bucket_count rules records = bucket_count_of (length records) rules.shape.c
 -- the number of the bucket of a record among these
 abbrev pub bucket_number : Rules → List Record → Record → ℕ
 bucket_number rules records r = bucket_of rules.shape.map r.a (bucket_count rules records)
+
+-- the search for some records may rely on what each search may
+pub partition_plan-IsSearchable : (rules : Rules) (seed : ℕ) (records : List Record) → AreRules rules → 0 < length records → length records ≤ MAX_KEYS
+    → IsSearchable (partition_plan rules seed records)
+partition_plan-IsSearchable rules seed records ranges some few =
+    let shape = ranges.shape in
+    let n : ℕ = length records in
+    let m : ℕ = bucket_count rules records in
+    let some_bucket : 1 ≤ m = bucket_count_of-some n rules.shape.c shape.c_low some in
+    let members : member_count (order_of records rules.shape.map m) ≡ n = member_count-order_of records rules.shape.map m some_bucket in
+    let room : n ≤ table_size_of n rules.shape.alpha = le-table_size_of n rules.shape.alpha shape.alpha_low shape.alpha_high in
+    record {
+      has_position = table_size_of-some n rules.shape.alpha shape.alpha_low shape.alpha_high some;
+      size_bound = table_size_of-le n rules.shape.alpha shape.alpha_low few;
+      has_pilot = ranges.some_pilot;
+      limit_bound = omega (arith, ranges.few_pilots);
+      members_fit = omega arith;
+      no_empty = no_empty_bucket records rules.shape.map m;
+    }
 
 -- the partition with these records whose search ended in this state
 abbrev pub finished_part : Rules → ℕ → List Record → SearchState → PartData
