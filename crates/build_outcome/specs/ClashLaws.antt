@@ -46,8 +46,8 @@ pub record IsEarlierIn (keys : List (List ℕ)) (i j : ℕ) : Type 0 where
   pub within : j < length keys
 
 -- the places of a key and its twin
-earlier_of_twin : (keys : List (List ℕ)) (seed i j y : ℕ) (twin : Option ℕ) → earlier_twin keys seed y ≡ twin → y < length keys
-    → with_twin y twin ≡ Some (i, j) → IsEarlierIn keys i j
+earlier_of_twin : (keys : List (List ℕ)) (seed i j y : ℕ) (twin : Option ℕ) → earlier_twin keys seed y ≡ twin → y < length keys →
+    with_twin y twin ≡ Some (i, j) → IsEarlierIn keys i j
 earlier_of_twin keys seed i j y None twin within found = absurd cc
 earlier_of_twin keys seed i j y (Some x) twin within found =
     let first : x ≡ i = ap (λ o. first_of_pair o) found in
@@ -64,9 +64,9 @@ earlier_of_twin keys seed i j y (Some x) twin within found =
     second_of_pair (Some p) = p.1
 
 -- the same for a place that may not be there
-earlier_of_second : (keys : List (List ℕ)) (seed i j : ℕ) (second : Option ℕ)
-    → least_below (λ y. is_some (earlier_twin keys seed y)) (length keys) ≡ second
-    → twins_at keys seed second ≡ Some (i, j) → IsEarlierIn keys i j
+earlier_of_second : (keys : List (List ℕ)) (seed i j : ℕ) (second : Option ℕ) →
+    least_below (λ y. is_some (earlier_twin keys seed y)) (length keys) ≡ second →
+    twins_at keys seed second ≡ Some (i, j) → IsEarlierIn keys i j
 earlier_of_second keys seed i j None second found = absurd cc
 earlier_of_second keys seed i j (Some y) second found =
     earlier_of_twin keys seed i j y (earlier_twin keys seed y) refl

@@ -36,8 +36,8 @@ abbrev pub bucket_number : Rules → List Record → Record → ℕ
 bucket_number rules records r = bucket_of rules.shape.map r.a (bucket_count rules records)
 
 -- the search for some records may rely on what each search may
-pub partition_plan-IsSearchable : (rules : Rules) (seed : ℕ) (records : List Record) → AreRules rules → 0 < length records → length records ≤ MAX_KEYS
-    → IsSearchable (partition_plan rules seed records)
+pub partition_plan-IsSearchable : (rules : Rules) (seed : ℕ) (records : List Record) → AreRules rules → 0 < length records → length records ≤ MAX_KEYS →
+    IsSearchable (partition_plan rules seed records)
 partition_plan-IsSearchable rules seed records ranges some few =
     let shape = ranges.shape in
     let n : ℕ = length records in
@@ -71,17 +71,17 @@ pub record HasFinished (rules : Rules) (seed : ℕ) (records : List Record) (par
   pub is : finished_part rules seed records state ≡ part
 
 -- the state of a search that gave a partition
-finished_by : (rules : Rules) (seed : ℕ) (records : List Record) (part : PartData) (answer : Result SearchState ℕ) → IsShape rules.shape → 0 < length records
-    → search_of (partition_plan rules seed records) ≡ answer
-    → searched (length records) (bucket_count rules records) (partition_plan rules seed records) answer ≡ Ok part
-    → HasFinished rules seed records part
+finished_by : (rules : Rules) (seed : ℕ) (records : List Record) (part : PartData) (answer : Result SearchState ℕ) → IsShape rules.shape → 0 < length records →
+    search_of (partition_plan rules seed records) ≡ answer →
+    searched (length records) (bucket_count rules records) (partition_plan rules seed records) answer ≡ Ok part →
+    HasFinished rules seed records part
 finished_by rules seed records part (Err rank) shape some ends gives = absurd cc
 finished_by rules seed records part (Ok state) shape some ends gives =
     record { state = state; finished = record { shape = shape; some = some; ends = ends }; is = cc }
 
 -- a partition of some records comes from a search that ended
-pub part_of-some : (rules : Rules) (seed : ℕ) (records : List Record) (part : PartData) → IsShape rules.shape → 0 < length records
-    → part_of rules seed records ≡ Ok part → HasFinished rules seed records part
+pub part_of-some : (rules : Rules) (seed : ℕ) (records : List Record) (part : PartData) → IsShape rules.shape → 0 < length records →
+    part_of rules seed records ≡ Ok part → HasFinished rules seed records part
 unfolding part_of
 part_of-some rules seed [] part shape some gives = absurd (omega arith)
 part_of-some rules seed (r ∷ records) part shape some gives =
@@ -117,8 +117,8 @@ known rules seed records state finished =
     }
 
 -- as many positions of the table are taken as there are records
-pub takes_count : (rules : Rules) (seed : ℕ) (records : List Record) (state : SearchState) → IsFinished rules seed records state
-    → TakesCount (contains state.taken) (length records) (partition_plan rules seed records).size
+pub takes_count : (rules : Rules) (seed : ℕ) (records : List Record) (state : SearchState) → IsFinished rules seed records state →
+    TakesCount (contains state.taken) (length records) (partition_plan rules seed records).size
 takes_count rules seed records state finished =
     let facts : IsKnown rules seed records state = known rules seed records state finished in
     record {
@@ -127,15 +127,15 @@ takes_count rules seed records state finished =
     }
 
 -- the partition has the size of its records' table
-pub part_size-finished : (rules : Rules) (seed : ℕ) (records : List Record) (state : SearchState) → IsFinished rules seed records state
-    → part_size (finished_part rules seed records state) ≡ table_size_of (length records) rules.shape.alpha
+pub part_size-finished : (rules : Rules) (seed : ℕ) (records : List Record) (state : SearchState) → IsFinished rules seed records state →
+    part_size (finished_part rules seed records state) ≡ table_size_of (length records) rules.shape.alpha
 part_size-finished rules seed records state finished =
     let facts : IsKnown rules seed records state = known rules seed records state finished in
     omega (arith, length-free_list_of (contains state.taken) (length records) (table_size_of (length records) rules.shape.alpha), facts.fits)
 
 -- the position of a record in the partition is the one that the search found
-pub pair_position-finished : (rules : Rules) (seed : ℕ) (records : List Record) (state : SearchState) → IsFinished rules seed records state
-    → (r : Record) → pair_position rules.shape.map seed (finished_part rules seed records state) r.a r.b
+pub pair_position-finished : (rules : Rules) (seed : ℕ) (records : List Record) (state : SearchState) → IsFinished rules seed records state →
+    (r : Record) → pair_position rules.shape.map seed (finished_part rules seed records state) r.a r.b
     ≡ found_position (partition_plan rules seed records) state (bucket_number rules records) r
 pair_position-finished rules seed records state finished r =
     let facts : IsKnown rules seed records state = known rules seed records state finished in
@@ -155,15 +155,15 @@ abbrev pub pair_number : Map → ℕ → PartData → ℕ → ℕ → ℕ
 pair_number spread seed part a b = position_value part.n part.free (pair_position spread seed part a b)
 
 -- a partition that has a key gives each pair its number
-pub part_value-some : (spread : Map) (seed : ℕ) (part : PartData) (a b : ℕ) → 0 < part.n
-    → part_value spread seed part a b ≡ Some (pair_number spread seed part a b)
+pub part_value-some : (spread : Map) (seed : ℕ) (part : PartData) (a b : ℕ) → 0 < part.n →
+    part_value spread seed part a b ≡ Some (pair_number spread seed part a b)
 part_value-some spread seed part a b some =
     let other : (part.n == 0) ≡ false = ne_eqb part.n 0 (λ none. omega arith) in
     rw other refl
 
 -- all elements pass two tests
-all_both : {A : Type 0} (first second : A → Bool) (xs : List A) → list_all first xs ≡ true → list_all second xs ≡ true
-    → list_all (λ x. first x && second x) xs ≡ true
+all_both : {A : Type 0} (first second : A → Bool) (xs : List A) → list_all first xs ≡ true → list_all second xs ≡ true →
+    list_all (λ x. first x && second x) xs ≡ true
 all_both first second [] one two = refl
 all_both first second (x ∷ xs) one two =
     let head = and_parts (first x) (list_all first xs) one in
@@ -172,8 +172,8 @@ all_both first second (x ∷ xs) one two =
     (all_both first second xs head.1 tail.1)
 
 -- the numbers of the records are pairwise different
-pub pair_numbers_differ : (rules : Rules) (seed : ℕ) (records : List Record) (state : SearchState) → IsFinished rules seed records state
-    → is_distinct (map (λ r. pair_number rules.shape.map seed (finished_part rules seed records state) r.a r.b) records) ≡ true
+pub pair_numbers_differ : (rules : Rules) (seed : ℕ) (records : List Record) (state : SearchState) → IsFinished rules seed records state →
+    is_distinct (map (λ r. pair_number rules.shape.map seed (finished_part rules seed records state) r.a r.b) records) ≡ true
 pair_numbers_differ rules seed records state finished =
     let facts : IsKnown rules seed records state = known rules seed records state finished in
     let plan : SearchPlan = partition_plan rules seed records in
@@ -199,8 +199,8 @@ pair_numbers_differ rules seed records state finished =
     ∙ distinct
 
 -- each pair of hashes has a number below the number of records
-pub pair_number-below : (rules : Rules) (seed : ℕ) (records : List Record) (state : SearchState) → IsFinished rules seed records state → (a b : ℕ)
-    → pair_number rules.shape.map seed (finished_part rules seed records state) a b < length records
+pub pair_number-below : (rules : Rules) (seed : ℕ) (records : List Record) (state : SearchState) → IsFinished rules seed records state → (a b : ℕ) →
+    pair_number rules.shape.map seed (finished_part rules seed records state) a b < length records
 pair_number-below rules seed records state finished a b =
     let facts : IsKnown rules seed records state = known rules seed records state finished in
     let size : ℕ = (partition_plan rules seed records).size in

@@ -30,8 +30,8 @@ use Rattle.build_outcome.specs.Values.{part_at}
 use Rattle.build_outcome.specs.Validity.{IsValidPart, IsValidIndex}
 
 -- a pilot by number is one of the pilots, or 0
-pilot_by_number-below : (buckets : List Bucket) (pilots : List ℕ) (limit number : ℕ) → 0 < limit → All (λ k. k < limit) pilots
-    → pilot_by_number buckets pilots number < limit
+pilot_by_number-below : (buckets : List Bucket) (pilots : List ℕ) (limit number : ℕ) → 0 < limit → All (λ k. k < limit) pilots →
+    pilot_by_number buckets pilots number < limit
 pilot_by_number-below [] pilots limit number some below = some
 pilot_by_number-below (bucket ∷ buckets) [] limit number some below = some
 pilot_by_number-below (bucket ∷ buckets) (pilot ∷ pilots) limit number some below =
@@ -46,8 +46,8 @@ pilots_below_limit plan t state reached =
     All-from_get_or (λ k. k < plan.limit) state.pilots 0 (λ rank within. (reached.least rank (omega (arith, reached.one_pilot_a_rank))).below)
 
 -- the pilots of a partition whose search ended are below the most
-pilots_are_below : (rules : Rules) (seed : ℕ) (records : List Record) (state : SearchState) → rules.limit ≤ MAX_PILOTS → IsFinished rules seed records state
-    → All (λ k. k < MAX_PILOTS) (finished_part rules seed records state).pilots
+pilots_are_below : (rules : Rules) (seed : ℕ) (records : List Record) (state : SearchState) → rules.limit ≤ MAX_PILOTS → IsFinished rules seed records state →
+    All (λ k. k < MAX_PILOTS) (finished_part rules seed records state).pilots
 pilots_are_below rules seed records state few finished =
     let plan : SearchPlan = partition_plan rules seed records in
     let m : ℕ = bucket_count rules records in
@@ -63,8 +63,8 @@ pilots_are_below rules seed records state few finished =
     (pilot_by_number-below plan.buckets state.pilots MAX_PILOTS k (omega arith) most))
 
 -- a partition whose search ended is valid
-valid_finished : (rules : Rules) (seed : ℕ) (records : List Record) (state : SearchState) → rules.limit ≤ MAX_PILOTS → length records ≤ MAX_KEYS
-    → IsFinished rules seed records state → IsValidPart rules.shape (finished_part rules seed records state)
+valid_finished : (rules : Rules) (seed : ℕ) (records : List Record) (state : SearchState) → rules.limit ≤ MAX_PILOTS → length records ≤ MAX_KEYS →
+    IsFinished rules seed records state → IsValidPart rules.shape (finished_part rules seed records state)
 valid_finished rules seed records state few_pilots few_keys finished =
     let plan : SearchPlan = partition_plan rules seed records in
     record {
@@ -88,8 +88,8 @@ valid_empty shape = record {
 }
 
 -- a partition that was built is valid
-pub part_of-IsValidPart : (rules : Rules) (seed : ℕ) (records : List Record) (part : PartData) → AreRules rules → length records ≤ MAX_KEYS
-    → part_of rules seed records ≡ Ok part → IsValidPart rules.shape part
+pub part_of-IsValidPart : (rules : Rules) (seed : ℕ) (records : List Record) (part : PartData) → AreRules rules → length records ≤ MAX_KEYS →
+    part_of rules seed records ≡ Ok part → IsValidPart rules.shape part
 part_of-IsValidPart rules seed records part ranges few ends =
     ⊎_elim
     (λ (some : 0 < length records).
@@ -103,8 +103,8 @@ part_of-IsValidPart rules seed records part ranges few ends =
     (cases_lt 0 (length records))
 
 -- the index of a complete attempt is valid
-pub index_of-IsValidIndex : (rules : Rules) (keys : List (List ℕ)) (seed : ℕ) (parts : List PartData) → AreRules rules → seed < 2 ^ 64
-    → 1 ≤ length keys → length keys ≤ MAX_KEYS → parts_of rules keys seed ≡ Ok parts → IsValidIndex (index_of rules keys seed parts)
+pub index_of-IsValidIndex : (rules : Rules) (keys : List (List ℕ)) (seed : ℕ) (parts : List PartData) → AreRules rules → seed < 2 ^ 64 →
+    1 ≤ length keys → length keys ≤ MAX_KEYS → parts_of rules keys seed ≡ Ok parts → IsValidIndex (index_of rules keys seed parts)
 index_of-IsValidIndex rules keys seed parts ranges seed_fits some few ends =
     let records : List Record = records_of keys seed in
     let has : HasParts rules seed records parts = parts_of-HasParts rules keys seed parts ranges ends in

@@ -17,16 +17,16 @@ abbrev pub PassesLess : {A : Type 0} → (A → A → Bool) → (A → A → Boo
 PassesLess {A} test larger = (x y : A) → larger x y ≡ false → test x y ≡ false
 
 -- what fails the larger test fails the smaller
-none_of_less : {A : Type 0} (test larger : A → A → Bool) → PassesLess test larger → (x : A) (ys : List A)
-    → list_any (larger x) ys ≡ false → list_any (test x) ys ≡ false
+none_of_less : {A : Type 0} (test larger : A → A → Bool) → PassesLess test larger → (x : A) (ys : List A) →
+    list_any (larger x) ys ≡ false → list_any (test x) ys ≡ false
 none_of_less test larger less x [] none = refl
 none_of_less test larger less x (y ∷ ys) none =
     let parts = or_parts (larger x y) (list_any (larger x) ys) none in
     or_from (test x y) (list_any (test x) ys) (less x y parts.0) (none_of_less test larger less x ys parts.1)
 
 -- what a test that passes more leaves apart, one that passes less does too
-pub are_apart-less : {A : Type 0} (test larger : A → A → Bool) → PassesLess test larger → (xs : List A)
-    → are_apart larger xs ≡ true → are_apart test xs ≡ true
+pub are_apart-less : {A : Type 0} (test larger : A → A → Bool) → PassesLess test larger → (xs : List A) →
+    are_apart larger xs ≡ true → are_apart test xs ≡ true
 are_apart-less test larger less [] apart = refl
 are_apart-less test larger less (x ∷ xs) apart =
     let parts = and_parts (not (list_any (larger x) xs)) (are_apart larger xs) apart in
@@ -47,8 +47,8 @@ is_distinct-map f (x ∷ xs) =
     ∙ ap (λ b. not (list_any (λ y. f y == f x) xs) && b) (is_distinct-map f xs)
 
 -- by images: where they are distinct, and the test passes only elements with the same image
-pub are_apart-by_images : {A : Type 0} (test : A → A → Bool) (f : A → ℕ) → ((x y : A) → test x y ≡ true → f x ≡ f y)
-    → (xs : List A) → is_distinct (map f xs) ≡ true → are_apart test xs ≡ true
+pub are_apart-by_images : {A : Type 0} (test : A → A → Bool) (f : A → ℕ) → ((x y : A) → test x y ≡ true → f x ≡ f y) →
+    (xs : List A) → is_distinct (map f xs) ≡ true → are_apart test xs ≡ true
 are_apart-by_images test f same xs distinct =
     are_apart-less test (λ x y. f y == f x)
     (λ x y differ. false_from_ne_true (test x y) (λ passes. eqb-false (f y) (f x) differ (sym (same x y passes))))
@@ -80,8 +80,8 @@ none_at test (x ∷ xs) zero d none within = (or_parts (test x) (list_any test x
 none_at test (x ∷ xs) (suc k) d none within = none_at test xs k d (or_parts (test x) (list_any test xs) none).1 (omega arith)
 
 -- at two places: an element doesn't belong together with a later one
-pub are_apart-at : {A : Type 0} (test : A → A → Bool) (xs : List A) (i j : ℕ) (d : A) → are_apart test xs ≡ true → i < j → j < length xs
-    → test (slice_index_or xs i d) (slice_index_or xs j d) ≡ false
+pub are_apart-at : {A : Type 0} (test : A → A → Bool) (xs : List A) (i j : ℕ) (d : A) → are_apart test xs ≡ true → i < j → j < length xs →
+    test (slice_index_or xs i d) (slice_index_or xs j d) ≡ false
 are_apart-at test [] i j d apart before within = absurd (omega arith)
 are_apart-at test (x ∷ xs) i zero d apart before within = absurd (omega arith)
 are_apart-at test (x ∷ xs) zero (suc j) d apart before within =
@@ -90,12 +90,12 @@ are_apart-at test (x ∷ xs) (suc i) (suc j) d apart before within =
     are_apart-at test xs i j d (and_parts (not (list_any (test x) xs)) (are_apart test xs) apart).1 (omega arith) (omega arith)
 
 -- what fails a test in the class that the test stays in fails it everywhere
-none_by_class : {A : Type 0} (test : A → Bool) (class : A → ℕ) (k : ℕ) → ((y : A) → test y ≡ true → class y ≡ k) → (ys : List A)
-    → list_any test (filter (λ y. class y == k) ys) ≡ false → list_any test ys ≡ false
+none_by_class : {A : Type 0} (test : A → Bool) (class : A → ℕ) (k : ℕ) → ((y : A) → test y ≡ true → class y ≡ k) → (ys : List A) →
+    list_any test (filter (λ y. class y == k) ys) ≡ false → list_any test ys ≡ false
 none_by_class test class k stays [] none = refl
 none_by_class test class k stays (y ∷ ys) none =
-    elim (class y == k) as (λ b. (class y == k) ≡ b → list_any test (cond b (y ∷ filter (λ z. class z == k) ys) (filter (λ z. class z == k) ys)) ≡ false
-    → (test y || list_any test ys) ≡ false) [
+    elim (class y == k) as (λ b. (class y == k) ≡ b → list_any test (cond b (y ∷ filter (λ z. class z == k) ys) (filter (λ z. class z == k) ys)) ≡ false →
+    (test y || list_any test ys) ≡ false) [
       | true ↦ λ same fails.
           let parts = or_parts (test y) (list_any test (filter (λ z. class z == k) ys)) fails in
           or_from (test y) (list_any test ys) parts.0 (none_by_class test class k stays ys parts.1)
@@ -106,8 +106,8 @@ none_by_class test class k stays (y ∷ ys) none =
     ] refl none
 
 -- a part of a class without its head is apart where it is with the head
-class_of_tail : {A : Type 0} (test : A → A → Bool) (inside : A → Bool) (x : A) (xs : List A)
-    → are_apart test (filter inside (x ∷ xs)) ≡ true → are_apart test (filter inside xs) ≡ true
+class_of_tail : {A : Type 0} (test : A → A → Bool) (inside : A → Bool) (x : A) (xs : List A) →
+    are_apart test (filter inside (x ∷ xs)) ≡ true → are_apart test (filter inside xs) ≡ true
 class_of_tail test inside x xs apart =
     elim (inside x) as (λ b. are_apart test (cond b (x ∷ filter inside xs) (filter inside xs)) ≡ true → are_apart test (filter inside xs) ≡ true) [
       | true ↦ λ both. (and_parts (not (list_any (test x) (filter inside xs))) (are_apart test (filter inside xs)) both).1
@@ -115,10 +115,10 @@ class_of_tail test inside x xs apart =
     ] apart
 
 -- by class: where the test passes only elements of one class, and each class's elements are apart
-pub are_apart-by_class : {A : Type 0} (test : A → A → Bool) (class : A → ℕ) (m : ℕ) → ((x y : A) → test x y ≡ true → class x ≡ class y)
-    → (xs : List A) → list_all (λ x. nat_lt (class x) m) xs ≡ true
-    → ((k : ℕ) → k < m → are_apart test (filter (λ x. class x == k) xs) ≡ true)
-    → are_apart test xs ≡ true
+pub are_apart-by_class : {A : Type 0} (test : A → A → Bool) (class : A → ℕ) (m : ℕ) → ((x y : A) → test x y ≡ true → class x ≡ class y) →
+    (xs : List A) → list_all (λ x. nat_lt (class x) m) xs ≡ true →
+    ((k : ℕ) → k < m → are_apart test (filter (λ x. class x == k) xs) ≡ true) →
+    are_apart test xs ≡ true
 are_apart-by_class test class m stays [] below each = refl
 are_apart-by_class {A} test class m stays (x ∷ xs) below each =
     let parts = and_parts (nat_lt (class x) m) (list_all (λ y. nat_lt (class y) m) xs) below in
@@ -133,8 +133,8 @@ are_apart-by_class {A} test class m stays (x ∷ xs) below each =
     (are_apart-by_class test class m stays xs parts.1 (λ k lower. class_of_tail test (λ y. class y == k) x xs (each k lower)))
 
 -- where each element is inside, those that are apart by a test that asks for this too are apart
-pub are_apart-where : {A : Type 0} (inside : A → Bool) (test : A → A → Bool) (xs : List A) → list_all inside xs ≡ true
-    → are_apart (λ x y. inside x && (inside y && test x y)) xs ≡ true → are_apart test xs ≡ true
+pub are_apart-where : {A : Type 0} (inside : A → Bool) (test : A → A → Bool) (xs : List A) → list_all inside xs ≡ true →
+    are_apart (λ x y. inside x && (inside y && test x y)) xs ≡ true → are_apart test xs ≡ true
 are_apart-where inside test [] all apart = refl
 are_apart-where {A} inside test (x ∷ xs) all apart =
     let both : A → A → Bool = λ y z. inside y && (inside z && test y z) in
@@ -153,8 +153,8 @@ are_apart-where {A} inside test (x ∷ xs) all apart =
         or_from (test x y) (list_any (test x) ys) (subst (λ b. (b && test x y) ≡ false) first.0 rest.0) (none ys first.1 rest.1)
 
 -- distinct numbers that are all inside have distinct images, where the images of two inside differ
-pub is_distinct-map_where : (inside : ℕ → Bool) (f : ℕ → ℕ) → ((x y : ℕ) → inside x ≡ true → inside y ≡ true → f x ≡ f y → x ≡ y)
-    → (xs : List ℕ) → list_all inside xs ≡ true → is_distinct xs ≡ true → is_distinct (map f xs) ≡ true
+pub is_distinct-map_where : (inside : ℕ → Bool) (f : ℕ → ℕ) → ((x y : ℕ) → inside x ≡ true → inside y ≡ true → f x ≡ f y → x ≡ y) →
+    (xs : List ℕ) → list_all inside xs ≡ true → is_distinct xs ≡ true → is_distinct (map f xs) ≡ true
 is_distinct-map_where inside f differ xs all distinct =
     is_distinct-map f xs
     ∙ are_apart-where inside (λ x y. f y == f x) xs all
