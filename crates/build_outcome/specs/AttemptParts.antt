@@ -19,7 +19,7 @@ record HasFirst (first : Result PartData ℕ) (more : Result (List PartData) (�
   more_end : more ≡ Ok others
   is : part ∷ others ≡ parts
 
--- the parts of such an answer
+-- what such an answer is made of
 has_first : (number : ℕ) (first : Result PartData ℕ) (more : Result (List PartData) (ℕ × ℕ)) (parts : List PartData) →
     before_parts number first more ≡ Ok parts → HasFirst first more parts
 has_first number (Err bucket) more parts ends = absurd cc

@@ -105,7 +105,7 @@ none_by_class test class k stays (y ∷ ys) none =
           (none_by_class test class k stays ys fails)
     ] refl none
 
--- a part of a class without its head is apart where it is with the head
+-- the elements inside are apart without the head where they are with it
 class_of_tail : {A : Type 0} (test : A → A → Bool) (inside : A → Bool) (x : A) (xs : List A) →
     are_apart test (filter inside (x ∷ xs)) ≡ true → are_apart test (filter inside xs) ≡ true
 class_of_tail test inside x xs apart =
