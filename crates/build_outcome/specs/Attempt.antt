@@ -1,13 +1,14 @@
 -- What an attempt at one seed comes to, partition by partition.
-use Rattle.std.specs.Prelude.{ℕ, ◌+◌, List, [], ◌∷◌, length, Option, Some, None, Result, Ok, Err}
+use Rattle.std.specs.Prelude.{ℕ, ◌+◌, ◌≤◌, List, [], ◌∷◌, length, Option, Some, None, Result, Ok, Err}
 use Rattle.std.specs.FinSet.{contains}
 use Rattle.pthash.specs.declared.Record.{Record}
+use Rattle.pthash.specs.declared.TheConstants.{MAX_PARTITIONS, MAX_PILOTS}
 use Rattle.pthash.specs.ByBucket.{pilots_by_number}
 use Rattle.pthash.specs.Order.{order_of, bucket_at}
 use Rattle.pthash.specs.Partitions.{partitions_of}
 use Rattle.pthash.specs.Records.{records_of}
 use Rattle.pthash.specs.Search.{SearchPlan, SearchState, search_of}
-use Rattle.pthash.specs.Shapes.{ShapeData}
+use Rattle.pthash.specs.Shapes.{ShapeData, IsShape}
 use Rattle.pthash.specs.Sizes.{table_size_of, bucket_count_of}
 use Rattle.build_outcome.specs.Clash.{clash_of}
 use Rattle.build_outcome.specs.FreeList.{free_list_of}
@@ -18,6 +19,14 @@ pub record Rules : Type 0 where
   pub shape : ShapeData
   pub parts : ℕ
   pub limit : ℕ
+
+-- the rules are in their ranges
+pub record AreRules (rules : Rules) : Type 0 where
+  pub shape : IsShape rules.shape
+  pub some_part : 1 ≤ rules.parts
+  pub few_parts : rules.parts ≤ MAX_PARTITIONS
+  pub some_pilot : 1 ≤ rules.limit
+  pub few_pilots : rules.limit ≤ MAX_PILOTS
 
 -- what the search for a partition with these records is given
 abbrev pub partition_plan : Rules → ℕ → List Record → SearchPlan

@@ -19,8 +19,9 @@ record HasFirst (first : Result PartData ℕ) (more : Result (List PartData) (�
   more_end : more ≡ Ok others
   is : part ∷ others ≡ parts
 
-has_first : (number : ℕ) (first : Result PartData ℕ) (more : Result (List PartData) (ℕ × ℕ)) (parts : List PartData)
-    → before_parts number first more ≡ Ok parts → HasFirst first more parts
+-- what such an answer is made of
+has_first : (number : ℕ) (first : Result PartData ℕ) (more : Result (List PartData) (ℕ × ℕ)) (parts : List PartData) →
+    before_parts number first more ≡ Ok parts → HasFirst first more parts
 has_first number (Err bucket) more parts ends = absurd cc
 has_first number (Ok part) (Err stuck) parts ends = absurd cc
 has_first number (Ok part) (Ok others) parts ends = record { part = part; others = others; first_ends = refl; more_end = refl; is = cc }
@@ -31,8 +32,8 @@ pub record ArePartsOf (rules : Rules) (seed : ℕ) (lists : List (List Record)) 
   pub each : (q : ℕ) → q < length lists → part_of rules seed (slice_index_or lists q []) ≡ Ok (part_at parts q)
 
 -- one list more before the others
-one_more_part : (rules : Rules) (seed : ℕ) (records : List Record) (lists : List (List Record)) (part : PartData) (others : List PartData)
-    → part_of rules seed records ≡ Ok part → ArePartsOf rules seed lists others → ArePartsOf rules seed (records ∷ lists) (part ∷ others)
+one_more_part : (rules : Rules) (seed : ℕ) (records : List Record) (lists : List (List Record)) (part : PartData) (others : List PartData) →
+    part_of rules seed records ≡ Ok part → ArePartsOf rules seed lists others → ArePartsOf rules seed (records ∷ lists) (part ∷ others)
 one_more_part rules seed records lists part others ends rest = record {
   count = omega (arith, rest.count);
   each = λ q within. at q within;
@@ -43,8 +44,8 @@ one_more_part rules seed records lists part others ends rest = record {
     at (suc q) within = rest.each q (omega arith)
 
 -- where all partitions end well, each comes from its records
-pub parts_from-ArePartsOf : (rules : Rules) (seed number : ℕ) (lists : List (List Record)) (parts : List PartData)
-    → parts_from rules seed number lists ≡ Ok parts → ArePartsOf rules seed lists parts
+pub parts_from-ArePartsOf : (rules : Rules) (seed number : ℕ) (lists : List (List Record)) (parts : List PartData) →
+    parts_from rules seed number lists ≡ Ok parts → ArePartsOf rules seed lists parts
 parts_from-ArePartsOf rules seed number [] parts ends =
     let none : [] ≡ parts = cc in
     subst (ArePartsOf rules seed []) none (record { count = refl; each = λ q within. absurd (omega arith) })
@@ -56,8 +57,8 @@ parts_from-ArePartsOf rules seed number (records ∷ lists) parts ends =
     (parts_from-ArePartsOf rules seed (number + 1) lists first.others first.more_end))
 
 -- a partition has as many keys as it has records
-pub part_of-count : (rules : Rules) (seed : ℕ) (records : List Record) (part : PartData) → IsShape rules.shape → part_of rules seed records ≡ Ok part
-    → part.n ≡ length records
+pub part_of-count : (rules : Rules) (seed : ℕ) (records : List Record) (part : PartData) → IsShape rules.shape → part_of rules seed records ≡ Ok part →
+    part.n ≡ length records
 part_of-count rules seed records part shape ends =
     ⊎_elim
     (λ (some : 0 < length records).
@@ -75,8 +76,8 @@ part_of-count rules seed records part shape ends =
     keys_in (Err e) = 0
 
 -- all partitions together have as many keys as there are records
-pub key_count-parts : (rules : Rules) (seed number : ℕ) (lists : List (List Record)) (parts : List PartData) → IsShape rules.shape
-    → parts_from rules seed number lists ≡ Ok parts → key_count parts ≡ sum_by length lists
+pub key_count-parts : (rules : Rules) (seed number : ℕ) (lists : List (List Record)) (parts : List PartData) → IsShape rules.shape →
+    parts_from rules seed number lists ≡ Ok parts → key_count parts ≡ sum_by length lists
 key_count-parts rules seed number [] parts shape ends =
     let none : [] ≡ parts = cc in
     ap key_count (sym none)
@@ -93,8 +94,8 @@ pub key_count-next : (parts : List PartData) (q : ℕ) → q < length parts → 
 key_count-next parts q within = sum_by_more (λ (p : PartData). p.n) parts q (record { n = 0; pilots = []; free = [] }) within
 
 -- and no more than those before a later one
-pub key_count-later : (parts : List PartData) (q later : ℕ) → q < length parts → q < later
-    → key_count (take q parts) + (part_at parts q).n ≤ key_count (take later parts)
+pub key_count-later : (parts : List PartData) (q later : ℕ) → q < length parts → q < later →
+    key_count (take q parts) + (part_at parts q).n ≤ key_count (take later parts)
 key_count-later parts q later within before =
     let front : take (q + 1) (take later parts) ≡ take (q + 1) parts = take-take (q + 1) later parts (omega arith) in
     let fewer : key_count (take (q + 1) (take later parts)) ≤ key_count (take later parts) =

@@ -13,10 +13,12 @@ pub record IsFirstClash (keys : List (List ℕ)) (seed i j : ℕ) : Type 0 where
   pub least_second : (x y : ℕ) → x < y → y < j → is_twin keys seed y x ≡ false
   pub least_first : (x : ℕ) → x < i → is_twin keys seed j x ≡ false
 
+-- the first twin of the second place
 twin_of_second : (keys : List (List ℕ)) (seed i j : ℕ) → IsFirstClash keys seed i j → earlier_twin keys seed j ≡ Some i
 twin_of_second keys seed i j first =
     least_below-found (is_twin keys seed j) j i (record { below = first.earlier; passes = first.twins; first = first.least_first })
 
+-- the first clash is found
 pub clash_of-found : (keys : List (List ℕ)) (seed i j : ℕ) → IsFirstClash keys seed i j → clash_of keys seed ≡ Some (i, j)
 unfolding clash_of
 clash_of-found keys seed i j first =
@@ -29,6 +31,7 @@ clash_of-found keys seed i j first =
     }) in
     rw second (rw twin refl)
 
+-- where no key has an earlier twin, there is no clash
 pub clash_of-none : (keys : List (List ℕ)) (seed : ℕ) → ((x y : ℕ) → x < y → y < length keys → is_twin keys seed y x ≡ false) → clash_of keys seed ≡ None
 unfolding clash_of
 clash_of-none keys seed apart =
@@ -42,8 +45,9 @@ pub record IsEarlierIn (keys : List (List ℕ)) (i j : ℕ) : Type 0 where
   pub earlier : i < j
   pub within : j < length keys
 
-earlier_of_twin : (keys : List (List ℕ)) (seed i j y : ℕ) (twin : Option ℕ) → earlier_twin keys seed y ≡ twin → y < length keys
-    → with_twin y twin ≡ Some (i, j) → IsEarlierIn keys i j
+-- the places of a key and its twin
+earlier_of_twin : (keys : List (List ℕ)) (seed i j y : ℕ) (twin : Option ℕ) → earlier_twin keys seed y ≡ twin → y < length keys →
+    with_twin y twin ≡ Some (i, j) → IsEarlierIn keys i j
 earlier_of_twin keys seed i j y None twin within found = absurd cc
 earlier_of_twin keys seed i j y (Some x) twin within found =
     let first : x ≡ i = ap (λ o. first_of_pair o) found in
@@ -59,9 +63,10 @@ earlier_of_twin keys seed i j y (Some x) twin within found =
     second_of_pair None = 0
     second_of_pair (Some p) = p.1
 
-earlier_of_second : (keys : List (List ℕ)) (seed i j : ℕ) (second : Option ℕ)
-    → least_below (λ y. is_some (earlier_twin keys seed y)) (length keys) ≡ second
-    → twins_at keys seed second ≡ Some (i, j) → IsEarlierIn keys i j
+-- the same for a place that may not be there
+earlier_of_second : (keys : List (List ℕ)) (seed i j : ℕ) (second : Option ℕ) →
+    least_below (λ y. is_some (earlier_twin keys seed y)) (length keys) ≡ second →
+    twins_at keys seed second ≡ Some (i, j) → IsEarlierIn keys i j
 earlier_of_second keys seed i j None second found = absurd cc
 earlier_of_second keys seed i j (Some y) second found =
     earlier_of_twin keys seed i j y (earlier_twin keys seed y) refl

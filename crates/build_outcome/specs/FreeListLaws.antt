@@ -40,9 +40,9 @@ free_are_free is_taken n k within =
     not-true (is_taken (slice_index (free_below is_taken n) k)) (filter_passes (λ p. not (is_taken p)) (numbers_below n) k 0 within)
 
 -- they rise where those below and one more do
-rise_more : (free : List ℕ) (n : ℕ) (b : Bool) → All (λ p. p < n) free
-    → ((i j : ℕ) → i < j → j < length free → slice_index free i < slice_index free j)
-    → (i j : ℕ) → i < j → j < length (free ++ cond b (n ∷ []) []) → slice_index (free ++ cond b (n ∷ []) []) i < slice_index (free ++ cond b (n ∷ []) []) j
+rise_more : (free : List ℕ) (n : ℕ) (b : Bool) → All (λ p. p < n) free →
+    ((i j : ℕ) → i < j → j < length free → slice_index free i < slice_index free j) →
+    (i j : ℕ) → i < j → j < length (free ++ cond b (n ∷ []) []) → slice_index (free ++ cond b (n ∷ []) []) i < slice_index (free ++ cond b (n ∷ []) []) j
 rise_more free n false below rise i j before within =
     subst (λ ps. (j < length ps) → slice_index ps i < slice_index ps j) (sym (append-nil free)) (λ inside. rise i j before inside) within
 rise_more free n true below rise i j before within =
@@ -59,8 +59,8 @@ rise_more free n true below rise i j before within =
     (cases_lt j (length free))
 
 -- the free positions rise
-pub free_rise : (is_taken : ℕ → Bool) (n i j : ℕ) → i < j → j < length (free_below is_taken n)
-    → slice_index (free_below is_taken n) i < slice_index (free_below is_taken n) j
+pub free_rise : (is_taken : ℕ → Bool) (n i j : ℕ) → i < j → j < length (free_below is_taken n) →
+    slice_index (free_below is_taken n) i < slice_index (free_below is_taken n) j
 unfolding numbers_below
 free_rise is_taken zero i j before within = absurd (omega arith)
 free_rise is_taken (suc n) i j before within =
@@ -80,8 +80,8 @@ unfolding numbers_below
 taken_from-suc is_taken n k = count_by-push (λ i. is_taken (n + i)) (numbers_below k) k
 
 -- the taken positions below n and the taken ones from n on
-pub taken_below_and_from : (is_taken : ℕ → Bool) (n k size : ℕ) → size ≡ n + k
-    → count_by is_taken (numbers_below size) ≡ count_by is_taken (numbers_below n) + taken_from is_taken n k
+pub taken_below_and_from : (is_taken : ℕ → Bool) (n k size : ℕ) → size ≡ n + k →
+    count_by is_taken (numbers_below size) ≡ count_by is_taken (numbers_below n) + taken_from is_taken n k
 unfolding numbers_below
 taken_below_and_from is_taken n zero size is =
     let same : size ≡ n = omega arith in
@@ -198,8 +198,8 @@ pub record TakesCount (is_taken : ℕ → Bool) (n size : ℕ) : Type 0 where
   pub count : count_by is_taken (numbers_below size) ≡ n
 
 -- a taken position behind n has fewer taken ones between than there are free ones below n
-rank_is_below : (is_taken : ℕ → Bool) (n size k : ℕ) → TakesCount is_taken n size → k < size - n → is_taken (n + k) ≡ true
-    → taken_from is_taken n k < length (free_below is_taken n)
+rank_is_below : (is_taken : ℕ → Bool) (n size k : ℕ) → TakesCount is_taken n size → k < size - n → is_taken (n + k) ≡ true →
+    taken_from is_taken n k < length (free_below is_taken n)
 rank_is_below is_taken n size k takes within taken =
     let fits : n ≤ size = takes.fits in
     let whole : count_by is_taken (numbers_below size) ≡ count_by is_taken (numbers_below n) + taken_from is_taken n (size - n) =
@@ -208,31 +208,31 @@ rank_is_below is_taken n size k takes within taken =
     omega (arith, takes.count, taken_and_free is_taken n)
 
 -- its entry is the free position of its rank
-entry_of_taken : (is_taken : ℕ → Bool) (n size k : ℕ) → TakesCount is_taken n size → k < size - n → is_taken (n + k) ≡ true
-    → free_entry is_taken n k ≡ slice_index (free_below is_taken n) (taken_from is_taken n k)
+entry_of_taken : (is_taken : ℕ → Bool) (n size k : ℕ) → TakesCount is_taken n size → k < size - n → is_taken (n + k) ≡ true →
+    free_entry is_taken n k ≡ slice_index (free_below is_taken n) (taken_from is_taken n k)
 entry_of_taken is_taken n size k takes within taken =
     let below : taken_from is_taken n k < length (free_below is_taken n) = rank_is_below is_taken n size k takes within taken in
     let place : min (taken_from is_taken n k) (length (free_below is_taken n) - 1) ≡ taken_from is_taken n k = omega arith in
     ap (slice_index (free_below is_taken n)) place
 
 -- the entries of two taken positions differ
-entries_differ : (is_taken : ℕ → Bool) (n size j k : ℕ) → TakesCount is_taken n size → j < k → k < size - n → is_taken (n + j) ≡ true
-    → is_taken (n + k) ≡ true → free_entry is_taken n j < free_entry is_taken n k
+entries_differ : (is_taken : ℕ → Bool) (n size j k : ℕ) → TakesCount is_taken n size → j < k → k < size - n → is_taken (n + j) ≡ true →
+    is_taken (n + k) ≡ true → free_entry is_taken n j < free_entry is_taken n k
 entries_differ is_taken n size j k takes before within first second =
     rw (entry_of_taken is_taken n size j takes (omega arith) first, entry_of_taken is_taken n size k takes within second)
     (free_rise is_taken n (taken_from is_taken n j) (taken_from is_taken n k) (taken_from-taken is_taken n j k before first)
     (rank_is_below is_taken n size k takes within second))
 
 -- an entry of a taken position is free
-entry_is_free : (is_taken : ℕ → Bool) (n size k : ℕ) → TakesCount is_taken n size → k < size - n → is_taken (n + k) ≡ true
-    → is_taken (free_entry is_taken n k) ≡ false
+entry_is_free : (is_taken : ℕ → Bool) (n size k : ℕ) → TakesCount is_taken n size → k < size - n → is_taken (n + k) ≡ true →
+    is_taken (free_entry is_taken n k) ≡ false
 entry_is_free is_taken n size k takes within taken =
     ap is_taken (entry_of_taken is_taken n size k takes within taken)
     ∙ free_are_free is_taken n (taken_from is_taken n k) (rank_is_below is_taken n size k takes within taken)
 
 -- two taken positions, the first before the second, have different values
-values_of_two : (is_taken : ℕ → Bool) (n size p q : ℕ) → TakesCount is_taken n size → p < q → q < size → is_taken p ≡ true → is_taken q ≡ true
-    → position_value n (free_list_of is_taken n size) p ≡ position_value n (free_list_of is_taken n size) q → ⊥
+values_of_two : (is_taken : ℕ → Bool) (n size p q : ℕ) → TakesCount is_taken n size → p < q → q < size → is_taken p ≡ true → is_taken q ≡ true →
+    position_value n (free_list_of is_taken n size) p ≡ position_value n (free_list_of is_taken n size) q → ⊥
 values_of_two is_taken n size p q takes before within first second same =
     let free : List ℕ = free_list_of is_taken n size in
     ⊎_elim
@@ -261,9 +261,9 @@ values_of_two is_taken n size p q takes before within first second same =
     (cases_lt q n)
 
 -- where n positions are taken, different taken positions have different values
-pub position_value-differs : (is_taken : ℕ → Bool) (n size p q : ℕ) → TakesCount is_taken n size → p < size → q < size
-    → is_taken p ≡ true → is_taken q ≡ true
-    → position_value n (free_list_of is_taken n size) p ≡ position_value n (free_list_of is_taken n size) q → p ≡ q
+pub position_value-differs : (is_taken : ℕ → Bool) (n size p q : ℕ) → TakesCount is_taken n size → p < size → q < size →
+    is_taken p ≡ true → is_taken q ≡ true →
+    position_value n (free_list_of is_taken n size) p ≡ position_value n (free_list_of is_taken n size) q → p ≡ q
 position_value-differs is_taken n size p q takes p_within q_within first second same =
     ⊎_elim
     (λ (equal : p ≡ q). equal)

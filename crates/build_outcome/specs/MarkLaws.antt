@@ -12,7 +12,6 @@ use Rattle.std.proofs.lemmas.List.Sorted.{IsPermutation-keeps, sum_by-IsPermutat
 use Rattle.std.proofs.lemmas.Nat.{xor_comm, xor_lt}
 use Rattle.pthash.specs.Hash.{first_hash, second_hash}
 use Rattle.pthash.specs.HashLaws.{hash_of-lt}
-use Rattle.build_outcome.specs.Index.{KeyMarkData}
 use Rattle.build_outcome.specs.Mark.{xor_of, mark_of}
 use Rattle.build_outcome.specs.Validity.{IsMark}
 
@@ -38,8 +37,8 @@ xor_turned : (a b c : ℕ) → bit_xor (bit_xor a b) c ≡ bit_xor (bit_xor c b)
 xor_turned a b c = xor_assoc a b c ∙ xor_comm a (bit_xor b c) ∙ ap (λ x. bit_xor x a) (xor_comm b c)
 
 -- a key in another's place changes the xor by both
-xor_of-set : (keys : List (List ℕ)) (seed i : ℕ) (key d : List ℕ) → i < length keys
-    → bit_xor (xor_of (slice_set keys i key) seed) (second_hash (slice_index_or keys i d) seed) ≡ bit_xor (xor_of keys seed) (second_hash key seed)
+xor_of-set : (keys : List (List ℕ)) (seed i : ℕ) (key d : List ℕ) → i < length keys →
+    bit_xor (xor_of (slice_set keys i key) seed) (second_hash (slice_index_or keys i d) seed) ≡ bit_xor (xor_of keys seed) (second_hash key seed)
 xor_of-set [] seed i key d within = absurd (omega arith)
 xor_of-set (k ∷ keys) seed zero key d within = xor_turned (second_hash key seed) (xor_of keys seed) (second_hash k seed)
 xor_of-set (k ∷ keys) seed (suc i) key d within =
@@ -48,8 +47,8 @@ xor_of-set (k ∷ keys) seed (suc i) key d within =
     ∙ sym (xor_assoc (second_hash k seed) (xor_of keys seed) (second_hash key seed))
 
 -- a key that was written before another place, read there
-read_at_other : (keys : List (List ℕ)) (i j : ℕ) (d : List ℕ) → i < length keys
-    → slice_index_or (slice_set keys i (slice_index_or keys j d)) j d ≡ slice_index_or keys j d
+read_at_other : (keys : List (List ℕ)) (i j : ℕ) (d : List ℕ) → i < length keys →
+    slice_index_or (slice_set keys i (slice_index_or keys j d)) j d ≡ slice_index_or keys j d
 read_at_other keys i j d within =
     ⊎_elim
     (λ (same : i ≡ j).

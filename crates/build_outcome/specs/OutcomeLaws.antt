@@ -17,12 +17,14 @@ pub record IsRepeat (keys : List (List ℕ)) (i j : ℕ) : Type 0 where
   pub places : IsEarlierIn keys i j
   pub equal : key_at keys i ≡ key_at keys j
 
+-- the partitions alone never clash
 parts_do_not_clash : (parts : Result (List PartData) (ℕ × ℕ)) (i j : ℕ) → ¬ (by_parts parts ≡ clashed i j)
 parts_do_not_clash (Ok parts) i j same = cc
 parts_do_not_clash (Err e) i j same = cc
 
-clash_of_attempt : (clash : Option (ℕ × ℕ)) (parts : Result (List PartData) (ℕ × ℕ)) (i j : ℕ)
-    → unless_clash clash (by_parts parts) ≡ clashed i j → clash ≡ Some (i, j)
+-- where an attempt clashes, the list has that clash
+clash_of_attempt : (clash : Option (ℕ × ℕ)) (parts : Result (List PartData) (ℕ × ℕ)) (i j : ℕ) →
+    unless_clash clash (by_parts parts) ≡ clashed i j → clash ≡ Some (i, j)
 clash_of_attempt None parts i j same = absurd (parts_do_not_clash parts i j same)
 clash_of_attempt (Some c) parts i j same =
     let first : c.0 ≡ i = cc in
@@ -41,20 +43,23 @@ RepeatsKey keys (repeated i j) = IsRepeat keys i j
 RepeatsKey keys (exhausted causes) = Unit {0}
 RepeatsKey keys (built x) = Unit {0}
 
-repeat_or_on : (keys : List (List ℕ)) (i j : ℕ) (test : Bool) (later : Outcome) → bytes_eq (key_at keys i) (key_at keys j) ≡ test
-    → IsEarlierIn keys i j → RepeatsKey keys later → RepeatsKey keys (cond test (repeated i j) later)
+-- a repeated key, or what comes later
+repeat_or_on : (keys : List (List ℕ)) (i j : ℕ) (test : Bool) (later : Outcome) → bytes_eq (key_at keys i) (key_at keys j) ≡ test →
+    IsEarlierIn keys i j → RepeatsKey keys later → RepeatsKey keys (cond test (repeated i j) later)
 repeat_or_on keys i j true later same places more =
     record { places = places; equal = (bytes_eq-Decides (key_at keys i) (key_at keys j)).0 same }
 repeat_or_on keys i j false later other places more = more
 
-after_repeats : (rules : Rules) (keys : List (List ℕ)) (seed : ℕ) (go_on : Cause → Outcome) (attempt : Attempt) → attempt_of rules keys seed ≡ attempt
-    → ((cause : Cause) → RepeatsKey keys (go_on cause)) → RepeatsKey keys (after_attempt rules keys seed go_on attempt)
+-- the same after an attempt
+after_repeats : (rules : Rules) (keys : List (List ℕ)) (seed : ℕ) (go_on : Cause → Outcome) (attempt : Attempt) → attempt_of rules keys seed ≡ attempt →
+    ((cause : Cause) → RepeatsKey keys (go_on cause)) → RepeatsKey keys (after_attempt rules keys seed go_on attempt)
 after_repeats rules keys seed go_on (clashed i j) is more =
     repeat_or_on keys i j (bytes_eq (key_at keys i) (key_at keys j)) (go_on (SameHash i j)) refl
     (clash_of-earlier keys seed i j (attempt_of-clashed rules keys seed i j is)) (more (SameHash i j))
 after_repeats rules keys seed go_on (stuck part bucket) is more = more (Stuck part bucket)
 after_repeats rules keys seed go_on (complete parts) is more = tt
 
+-- it holds of each outcome
 outcome_repeats : (rules : Rules) (keys : List (List ℕ)) (causes : List Cause) (seeds : List ℕ) → RepeatsKey keys (outcome_from rules keys causes seeds)
 outcome_repeats rules keys causes [] = tt
 outcome_repeats rules keys causes (seed ∷ seeds) =
@@ -62,6 +67,6 @@ outcome_repeats rules keys causes (seed ∷ seeds) =
     (λ cause. outcome_repeats rules keys (causes ++ cause ∷ []) seeds)
 
 -- a repeated key stands at two places of the list
-pub repeated_key : (rules : Rules) (keys : List (List ℕ)) (causes : List Cause) (seeds : List ℕ) (i j : ℕ)
-    → outcome_from rules keys causes seeds ≡ repeated i j → IsRepeat keys i j
+pub repeated_key : (rules : Rules) (keys : List (List ℕ)) (causes : List Cause) (seeds : List ℕ) (i j : ℕ) →
+    outcome_from rules keys causes seeds ≡ repeated i j → IsRepeat keys i j
 repeated_key rules keys causes seeds i j is = subst (RepeatsKey keys) is (outcome_repeats rules keys causes seeds)

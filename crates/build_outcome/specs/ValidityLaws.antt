@@ -1,13 +1,12 @@
 -- The index of a complete attempt is valid.
-use Rattle.std.specs.Prelude.{◌≡◌, ℕ, zero, suc, ◌+◌, ◌-◌, ◌^◌, ◌<◌, ◌≤◌, Bool, true, false, cond, ◌==◌}
-use Rattle.std.specs.Prelude.{List, [], ◌∷◌, length, map, filter, count_by, slice_index, slice_index_or, Option, Some, None, Ok, All, IfSome}
+use Rattle.std.specs.Prelude.{◌≡◌, ℕ, ◌^◌, ◌<◌, ◌≤◌, true, false, cond, ◌==◌}
+use Rattle.std.specs.Prelude.{List, [], ◌∷◌, length, Ok, All}
 use Rattle.std.specs.FinSet.{contains}
-use Rattle.std.specs.List.Sorted.{IsNonDecreasing}
-use Rattle.std.proofs.Common.{refl, sym, ap, ◌∙◌, subst, arith, ⊎_elim}
+use Rattle.std.proofs.Common.{sym, ap, ◌∙◌, subst, arith, ⊎_elim}
 use Rattle.std.proofs.lemmas.Bool.{cases_lt}
 use Rattle.std.proofs.lemmas.List.{nil_from_length}
-use Rattle.std.proofs.lemmas.List.Elements.{All-head, All-tail, All-map, All-nil, All-from_get_or}
-use Rattle.std.proofs.lemmas.List.Sums.{length-filter, count_by-le-length, get_or-le-sum_by}
+use Rattle.std.proofs.lemmas.List.Elements.{All-head, All-tail, All-nil, All-from_get_or}
+use Rattle.std.proofs.lemmas.List.Sums.{length-filter, count_by-le-length}
 use Rattle.pthash.specs.declared.TheConstants.{MAX_KEYS, MAX_PILOTS}
 use Rattle.pthash.specs.declared.Record.{Record}
 use Rattle.pthash.specs.ByBucket.{pilot_by_number}
@@ -17,23 +16,22 @@ use Rattle.pthash.specs.Records.{records_of}
 use Rattle.pthash.specs.RecordLaws.{length-records_of}
 use Rattle.pthash.specs.Search.{SearchPlan, SearchState}
 use Rattle.pthash.specs.SearchLaws.{IsReached, finished_search}
-use Rattle.pthash.specs.Shapes.{ShapeData, IsShape}
-use Rattle.pthash.specs.Sizes.{table_size_of, bucket_count_of}
+use Rattle.pthash.specs.Shapes.{ShapeData}
 use Rattle.pthash.specs.SizeLaws.{table_size_of-some, table_size_of-none, bucket_count_of-none}
-use Rattle.build_outcome.specs.Attempt.{Rules, partition_plan, part_of}
+use Rattle.build_outcome.specs.Attempt.{Rules, AreRules, partition_plan, part_of}
 use Rattle.build_outcome.specs.AttemptLaws.{parts_of, parts_of-HasParts}
 use Rattle.build_outcome.specs.FreeListLaws.{free_list_of-rises, free_list_of-below}
-use Rattle.build_outcome.specs.Index.{PartData, IndexData}
+use Rattle.build_outcome.specs.Index.{PartData}
 use Rattle.build_outcome.specs.MarkLaws.{IsMark-mark_of}
 use Rattle.build_outcome.specs.Outcome.{index_of}
-use Rattle.build_outcome.specs.PartLaws.{AreRules, IsFinished, HasFinished, finished_part, bucket_count, part_of-some, part_of-none, part_size-finished}
+use Rattle.build_outcome.specs.PartLaws.{IsFinished, HasFinished, finished_part, bucket_count, part_of-some, part_of-none, part_size-finished}
 use Rattle.build_outcome.specs.ValueLaws.{HasParts, part_number, records_in, length-parts, part_of-records_in, key_count-records}
-use Rattle.build_outcome.specs.Values.{part_at, part_size}
+use Rattle.build_outcome.specs.Values.{part_at}
 use Rattle.build_outcome.specs.Validity.{IsValidPart, IsValidIndex}
 
 -- a pilot by number is one of the pilots, or 0
-pilot_by_number-below : (buckets : List Bucket) (pilots : List ℕ) (limit number : ℕ) → 0 < limit → All (λ k. k < limit) pilots
-    → pilot_by_number buckets pilots number < limit
+pilot_by_number-below : (buckets : List Bucket) (pilots : List ℕ) (limit number : ℕ) → 0 < limit → All (λ k. k < limit) pilots →
+    pilot_by_number buckets pilots number < limit
 pilot_by_number-below [] pilots limit number some below = some
 pilot_by_number-below (bucket ∷ buckets) [] limit number some below = some
 pilot_by_number-below (bucket ∷ buckets) (pilot ∷ pilots) limit number some below =
@@ -48,8 +46,8 @@ pilots_below_limit plan t state reached =
     All-from_get_or (λ k. k < plan.limit) state.pilots 0 (λ rank within. (reached.least rank (omega (arith, reached.one_pilot_a_rank))).below)
 
 -- the pilots of a partition whose search ended are below the most
-pilots_are_below : (rules : Rules) (seed : ℕ) (records : List Record) (state : SearchState) → rules.limit ≤ MAX_PILOTS → IsFinished rules seed records state
-    → All (λ k. k < MAX_PILOTS) (finished_part rules seed records state).pilots
+pilots_are_below : (rules : Rules) (seed : ℕ) (records : List Record) (state : SearchState) → rules.limit ≤ MAX_PILOTS → IsFinished rules seed records state →
+    All (λ k. k < MAX_PILOTS) (finished_part rules seed records state).pilots
 pilots_are_below rules seed records state few finished =
     let plan : SearchPlan = partition_plan rules seed records in
     let m : ℕ = bucket_count rules records in
@@ -65,8 +63,8 @@ pilots_are_below rules seed records state few finished =
     (pilot_by_number-below plan.buckets state.pilots MAX_PILOTS k (omega arith) most))
 
 -- a partition whose search ended is valid
-valid_finished : (rules : Rules) (seed : ℕ) (records : List Record) (state : SearchState) → rules.limit ≤ MAX_PILOTS → length records ≤ MAX_KEYS
-    → IsFinished rules seed records state → IsValidPart rules.shape (finished_part rules seed records state)
+valid_finished : (rules : Rules) (seed : ℕ) (records : List Record) (state : SearchState) → rules.limit ≤ MAX_PILOTS → length records ≤ MAX_KEYS →
+    IsFinished rules seed records state → IsValidPart rules.shape (finished_part rules seed records state)
 valid_finished rules seed records state few_pilots few_keys finished =
     let plan : SearchPlan = partition_plan rules seed records in
     record {
@@ -90,8 +88,8 @@ valid_empty shape = record {
 }
 
 -- a partition that was built is valid
-pub part_of-IsValidPart : (rules : Rules) (seed : ℕ) (records : List Record) (part : PartData) → AreRules rules → length records ≤ MAX_KEYS
-    → part_of rules seed records ≡ Ok part → IsValidPart rules.shape part
+pub part_of-IsValidPart : (rules : Rules) (seed : ℕ) (records : List Record) (part : PartData) → AreRules rules → length records ≤ MAX_KEYS →
+    part_of rules seed records ≡ Ok part → IsValidPart rules.shape part
 part_of-IsValidPart rules seed records part ranges few ends =
     ⊎_elim
     (λ (some : 0 < length records).
@@ -105,8 +103,8 @@ part_of-IsValidPart rules seed records part ranges few ends =
     (cases_lt 0 (length records))
 
 -- the index of a complete attempt is valid
-pub index_of-IsValidIndex : (rules : Rules) (keys : List (List ℕ)) (seed : ℕ) (parts : List PartData) → AreRules rules → seed < 2 ^ 64
-    → 1 ≤ length keys → length keys ≤ MAX_KEYS → parts_of rules keys seed ≡ Ok parts → IsValidIndex (index_of rules keys seed parts)
+pub index_of-IsValidIndex : (rules : Rules) (keys : List (List ℕ)) (seed : ℕ) (parts : List PartData) → AreRules rules → seed < 2 ^ 64 →
+    1 ≤ length keys → length keys ≤ MAX_KEYS → parts_of rules keys seed ≡ Ok parts → IsValidIndex (index_of rules keys seed parts)
 index_of-IsValidIndex rules keys seed parts ranges seed_fits some few ends =
     let records : List Record = records_of keys seed in
     let has : HasParts rules seed records parts = parts_of-HasParts rules keys seed parts ranges ends in

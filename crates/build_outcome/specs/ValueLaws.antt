@@ -15,10 +15,10 @@ use Rattle.pthash.specs.PartitionLaws.{length-partitions_of, partition_at, All-p
 use Rattle.pthash.specs.RecordLaws.{HashesFit}
 use Rattle.pthash.specs.Search.{is_distinct}
 use Rattle.pthash.specs.Sizes.{partition_of}
-use Rattle.build_outcome.specs.Attempt.{Rules, part_of, parts_from}
+use Rattle.build_outcome.specs.Attempt.{Rules, AreRules, part_of, parts_from}
 use Rattle.build_outcome.specs.AttemptParts.{ArePartsOf, parts_from-ArePartsOf, part_of-count, key_count-parts, key_count-later, key_count-all}
 use Rattle.build_outcome.specs.Index.{PartData}
-use Rattle.build_outcome.specs.PartLaws.{AreRules, HasFinished, part_of-some, pair_number, pair_numbers_differ, pair_number-below}
+use Rattle.build_outcome.specs.PartLaws.{HasFinished, part_of-some, pair_number, pair_numbers_differ, pair_number-below}
 use Rattle.build_outcome.specs.Values.{part_at, key_count}
 
 -- all partitions of these records ended well
@@ -48,14 +48,14 @@ abbrev is_within : Rules → ℕ → List PartData → Record → Bool
 is_within rules seed parts r = nat_lt (number_within rules seed parts r) (part_at parts (part_number rules.parts r)).n
 
 -- there are as many partitions as the rules ask for
-pub length-parts : (rules : Rules) (seed : ℕ) (records : List Record) (parts : List PartData) → HasParts rules seed records parts
-    → length parts ≡ rules.parts
+pub length-parts : (rules : Rules) (seed : ℕ) (records : List Record) (parts : List PartData) → HasParts rules seed records parts →
+    length parts ≡ rules.parts
 length-parts rules seed records parts has =
     (parts_from-ArePartsOf rules seed 0 (partitions_of records rules.parts) parts has.ends).count ∙ length-partitions_of records rules.parts
 
 -- each partition comes from its records
-pub part_of-records_in : (rules : Rules) (seed : ℕ) (records : List Record) (parts : List PartData) (q : ℕ) → HasParts rules seed records parts
-    → q < rules.parts → part_of rules seed (records_in records rules.parts q) ≡ Ok (part_at parts q)
+pub part_of-records_in : (rules : Rules) (seed : ℕ) (records : List Record) (parts : List PartData) (q : ℕ) → HasParts rules seed records parts →
+    q < rules.parts → part_of rules seed (records_in records rules.parts q) ≡ Ok (part_at parts q)
 part_of-records_in rules seed records parts q has within =
     let all : ArePartsOf rules seed (partitions_of records rules.parts) parts =
     parts_from-ArePartsOf rules seed 0 (partitions_of records rules.parts) parts has.ends in
@@ -63,22 +63,22 @@ part_of-records_in rules seed records parts q has within =
     ∙ all.each q (omega (arith, length-partitions_of records rules.parts))
 
 -- a partition that has a record comes from a search that ended
-has_finished : (rules : Rules) (seed : ℕ) (records : List Record) (parts : List PartData) (q : ℕ) → HasParts rules seed records parts → q < rules.parts
-    → 0 < length (records_in records rules.parts q) → HasFinished rules seed (records_in records rules.parts q) (part_at parts q)
+has_finished : (rules : Rules) (seed : ℕ) (records : List Record) (parts : List PartData) (q : ℕ) → HasParts rules seed records parts → q < rules.parts →
+    0 < length (records_in records rules.parts q) → HasFinished rules seed (records_in records rules.parts q) (part_at parts q)
 has_finished rules seed records parts q has within some =
     part_of-some rules seed (records_in records rules.parts q) (part_at parts q) has.ranges.shape some
     (part_of-records_in rules seed records parts q has within)
 
 -- the numbers of all partitions' keys add up to the number of records
-pub key_count-records : (rules : Rules) (seed : ℕ) (records : List Record) (parts : List PartData) → HasParts rules seed records parts
-    → key_count parts ≡ length records
+pub key_count-records : (rules : Rules) (seed : ℕ) (records : List Record) (parts : List PartData) → HasParts rules seed records parts →
+    key_count parts ≡ length records
 key_count-records rules seed records parts has =
     key_count-parts rules seed 0 (partitions_of records rules.parts) parts has.ranges.shape has.ends
     ∙ partitions_add_up records rules.parts has.ranges.some_part has.hashes
 
 -- the partition of each record has a key
-pub part_has_key : (rules : Rules) (seed : ℕ) (records : List Record) (parts : List PartData) → HasParts rules seed records parts
-    → All (λ r. 0 < (part_at parts (part_number rules.parts r)).n) records
+pub part_has_key : (rules : Rules) (seed : ℕ) (records : List Record) (parts : List PartData) → HasParts rules seed records parts →
+    All (λ r. 0 < (part_at parts (part_number rules.parts r)).n) records
 part_has_key rules seed records parts has i d within =
     let r : Record = slice_index_or records i d in
     let q : ℕ = part_number rules.parts r in
@@ -90,8 +90,8 @@ part_has_key rules seed records parts has i d within =
     omega arith
 
 -- each record's number is within its partition
-all_within : (rules : Rules) (seed : ℕ) (records : List Record) (parts : List PartData) → HasParts rules seed records parts
-    → list_all (is_within rules seed parts) records ≡ true
+all_within : (rules : Rules) (seed : ℕ) (records : List Record) (parts : List PartData) → HasParts rules seed records parts →
+    list_all (is_within rules seed parts) records ≡ true
 all_within rules seed records parts has =
     list_all-from_AllPass (is_within rules seed parts) records
     (λ i d within.
@@ -117,8 +117,8 @@ within_parts parts q k within =
     (cases_lt q (length parts))
 
 -- equal numbers within two partitions are of one partition
-same_part : (parts : List PartData) (q other k l : ℕ) → k < (part_at parts q).n → l < (part_at parts other).n
-    → key_count (take q parts) + k ≡ key_count (take other parts) + l → q ≡ other
+same_part : (parts : List PartData) (q other k l : ℕ) → k < (part_at parts q).n → l < (part_at parts other).n →
+    key_count (take q parts) + k ≡ key_count (take other parts) + l → q ≡ other
 same_part parts q other k l first second same =
     ⊎_elim
     (λ (equal : q ≡ other). equal)
@@ -141,8 +141,8 @@ map_agree f g [] agree = refl
 map_agree f g (x ∷ xs) agree = λ i. All-head (λ y. f y ≡ g y) x xs agree i ∷ map_agree f g xs (All-tail (λ y. f y ≡ g y) x xs agree) i
 
 -- the numbers within a partition are pairwise different
-numbers_within_differ : (rules : Rules) (seed : ℕ) (records : List Record) (parts : List PartData) (q : ℕ) → HasParts rules seed records parts
-    → q < rules.parts → is_distinct (map (number_within rules seed parts) (records_in records rules.parts q)) ≡ true
+numbers_within_differ : (rules : Rules) (seed : ℕ) (records : List Record) (parts : List PartData) (q : ℕ) → HasParts rules seed records parts →
+    q < rules.parts → is_distinct (map (number_within rules seed parts) (records_in records rules.parts q)) ≡ true
 numbers_within_differ rules seed records parts q has below =
     let rs : List Record = records_in records rules.parts q in
     let here : Record → ℕ = λ r. pair_number rules.shape.map seed (part_at parts q) r.a r.b in
@@ -163,8 +163,8 @@ numbers_within_differ rules seed records parts q has below =
     (cases_lt 0 (length rs))
 
 -- the numbers of the records are pairwise different
-pub record_numbers_differ : (rules : Rules) (seed : ℕ) (records : List Record) (parts : List PartData) → HasParts rules seed records parts
-    → is_distinct (map (record_number rules seed parts) records) ≡ true
+pub record_numbers_differ : (rules : Rules) (seed : ℕ) (records : List Record) (parts : List PartData) → HasParts rules seed records parts →
+    is_distinct (map (record_number rules seed parts) records) ≡ true
 record_numbers_differ rules seed records parts has =
     let number : Record → ℕ = record_number rules seed parts in
     let inside : Record → Bool = is_within rules seed parts in
@@ -196,8 +196,8 @@ record_numbers_differ rules seed records parts has =
     (numbers_within_differ rules seed records parts q has lower)))
 
 -- the number of each record is below the number of records
-pub record_number-below : (rules : Rules) (seed : ℕ) (records : List Record) (parts : List PartData) → HasParts rules seed records parts
-    → All (λ r. record_number rules seed parts r < length records) records
+pub record_number-below : (rules : Rules) (seed : ℕ) (records : List Record) (parts : List PartData) → HasParts rules seed records parts →
+    All (λ r. record_number rules seed parts r < length records) records
 record_number-below rules seed records parts has i d within =
     let r : Record = slice_index_or records i d in
     let q : ℕ = part_number rules.parts r in

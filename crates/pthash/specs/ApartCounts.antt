@@ -24,13 +24,9 @@ count_by-append {A} test xs ys = sum_by-append (λ (y : A). one_if (test y)) xs 
 pub count_by-push : {A : Type 0} (test : A → Bool) (xs : List A) (x : A) → count_by test (xs ++ x ∷ []) ≡ count_by test xs + one_if (test x)
 count_by-push {A} test xs x = sum_by_push (λ (y : A). one_if (test y)) xs x
 
--- tests that agree count the same
-pub count_by-agree : {A : Type 0} (test other : A → Bool) → ((x : A) → test x ≡ other x) → (xs : List A) → count_by test xs ≡ count_by other xs
-count_by-agree {A} test other same xs = ap (λ (f : A → Bool). count_by f xs) (λ i x. same x i)
-
 -- elements that each pass one of two tests, and never both
-pub count_by-either : {A : Type 0} (test first second : A → Bool) → ((x : A) → one_if (test x) ≡ one_if (first x) + one_if (second x)) → (xs : List A)
-    → count_by test xs ≡ count_by first xs + count_by second xs
+pub count_by-either : {A : Type 0} (test first second : A → Bool) → ((x : A) → one_if (test x) ≡ one_if (first x) + one_if (second x)) → (xs : List A) →
+    count_by test xs ≡ count_by first xs + count_by second xs
 count_by-either test first second split [] = refl
 count_by-either test first second split (x ∷ xs) =
     let rest : count_by test xs ≡ count_by first xs + count_by second xs = count_by-either test first second split xs in
@@ -76,8 +72,8 @@ none_counted test (x ∷ xs) none =
     ] (sym (count_by-cons test x xs) ∙ none)
 
 -- a filter keeps some where one passes
-pub filter_has_some : {A : Type 0} (test : A → Bool) (xs : List A) (i : ℕ) (d : A) → i < length xs → test (slice_index_or xs i d) ≡ true
-    → 0 < length (filter test xs)
+pub filter_has_some : {A : Type 0} (test : A → Bool) (xs : List A) (i : ℕ) (d : A) → i < length xs → test (slice_index_or xs i d) ≡ true →
+    0 < length (filter test xs)
 filter_has_some {A} test xs i d within passes =
     let counted : one_if (test (slice_index_or xs i d)) ≤ count_by test xs = get_or-le-sum_by (λ (x : A). one_if (test x)) xs i d within in
     let some : 1 ≤ count_by test xs = subst (λ b. one_if b ≤ count_by test xs) passes counted in
@@ -139,8 +135,8 @@ count_of-numbers_below (suc n) p below =
     (cases_lt p n)
 
 -- of the numbers below n, as many are in a list of distinct ones below n as it has
-pub count_by-among : (xs : List ℕ) (n : ℕ) → is_distinct xs ≡ true → list_all (λ x. nat_lt x n) xs ≡ true
-    → count_by (is_among xs) (numbers_below n) ≡ length xs
+pub count_by-among : (xs : List ℕ) (n : ℕ) → is_distinct xs ≡ true → list_all (λ x. nat_lt x n) xs ≡ true →
+    count_by (is_among xs) (numbers_below n) ≡ length xs
 count_by-among [] n distinct below = count_by-none (is_among []) (numbers_below n) (no_one (numbers_below n))
   where
     no_one : (ps : List ℕ) → list_any (is_among []) ps ≡ false

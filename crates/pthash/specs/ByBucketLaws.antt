@@ -14,8 +14,8 @@ unfolding pilots_by_number
 length-pilots_by_number buckets pilots m = length-map (numbers_below m) (pilot_by_number buckets pilots) ∙ length-numbers_below m
 
 -- the pilot at a number
-pub get_or-pilots_by_number : (buckets : List Bucket) (pilots : List ℕ) (m k : ℕ) → k < m
-    → slice_index (pilots_by_number buckets pilots m) k ≡ pilot_by_number buckets pilots k
+pub get_or-pilots_by_number : (buckets : List Bucket) (pilots : List ℕ) (m k : ℕ) → k < m →
+    slice_index (pilots_by_number buckets pilots m) k ≡ pilot_by_number buckets pilots k
 unfolding pilots_by_number
 get_or-pilots_by_number buckets pilots m k below =
     get_or-map (pilot_by_number buckets pilots) (numbers_below m) k 0 0 (omega (arith, length-numbers_below m))
@@ -31,8 +31,8 @@ pilots_by_number-none pilots m =
     get_or-pilots_by_number [] pilots m k below ∙ sym (get_or-replicate m k 0 0 below))
 
 -- one more bucket before the others sets the pilot at its number
-pub pilots_by_number-cons : (bucket : Bucket) (buckets : List Bucket) (pilot : ℕ) (pilots : List ℕ) (m : ℕ) → bucket.number < m
-    → pilots_by_number (bucket ∷ buckets) (pilot ∷ pilots) m ≡ slice_set (pilots_by_number buckets pilots m) bucket.number pilot
+pub pilots_by_number-cons : (bucket : Bucket) (buckets : List Bucket) (pilot : ℕ) (pilots : List ℕ) (m : ℕ) → bucket.number < m →
+    pilots_by_number (bucket ∷ buckets) (pilot ∷ pilots) m ≡ slice_set (pilots_by_number buckets pilots m) bucket.number pilot
 pilots_by_number-cons bucket buckets pilot pilots m within =
     let others : List ℕ = pilots_by_number buckets pilots m in
     let set_others : List ℕ = slice_set others bucket.number pilot in

@@ -44,8 +44,8 @@ IsAnswer test n None = FailsBelow test n
 IsAnswer test n (Some k) = IsLeast test n k
 
 -- the answer below one number more
-answer_more : (test : ℕ → Bool) (n : ℕ) (earlier : Option ℕ) (passes : Bool) → IsAnswer test n earlier → test n ≡ passes
-    → IsAnswer test (suc n) (option_or earlier (if passes then Some n else None))
+answer_more : (test : ℕ → Bool) (n : ℕ) (earlier : Option ℕ) (passes : Bool) → IsAnswer test n earlier → test n ≡ passes →
+    IsAnswer test (suc n) (option_or earlier (if passes then Some n else None))
 answer_more test n (Some k) passes earlier last = IsLeast-stays (suc n) (omega arith) earlier
 answer_more test n None true earlier last =
     record { below = omega arith; passes = last; first = earlier.fails }

@@ -21,15 +21,15 @@ pub record HasStep (plan : SearchPlan) (t : ℕ) (later : SearchState) : Type 0 
   pub gives : with_bucket plan t state pilot ≡ later
 
 -- the step where the state before and the answer for its bucket are known
-step_by_pilot : (plan : SearchPlan) (t : ℕ) (state later : SearchState) (pilot : Option ℕ) → prefix_of plan t ≡ Ok state
-    → least_below (fits_at plan (contains state.taken) t) plan.limit ≡ pilot → with_pilot plan t state pilot ≡ Ok later → HasStep plan t later
+step_by_pilot : (plan : SearchPlan) (t : ℕ) (state later : SearchState) (pilot : Option ℕ) → prefix_of plan t ≡ Ok state →
+    least_below (fits_at plan (contains state.taken) t) plan.limit ≡ pilot → with_pilot plan t state pilot ≡ Ok later → HasStep plan t later
 step_by_pilot plan t state later None ends found gives = absurd cc
 step_by_pilot plan t state later (Some k) ends found gives =
     record { state = state; pilot = k; ends = ends; found = found; gives = cc }
 
 -- the same, where the search may be stuck before
-step_by_state : (plan : SearchPlan) (t : ℕ) (later : SearchState) (before : Result SearchState ℕ) → prefix_of plan t ≡ before
-    → after_bucket plan t before ≡ Ok later → HasStep plan t later
+step_by_state : (plan : SearchPlan) (t : ℕ) (later : SearchState) (before : Result SearchState ℕ) → prefix_of plan t ≡ before →
+    after_bucket plan t before ≡ Ok later → HasStep plan t later
 step_by_state plan t later (Err rank) ends gives = absurd cc
 step_by_state plan t later (Ok state) ends gives =
     step_by_pilot plan t state later (least_below (fits_at plan (contains state.taken) t) plan.limit) ends refl gives
@@ -100,15 +100,15 @@ same_state plan t state later earlier ends =
     cc
 
 -- the pilots of a prefix of the search are a front of those of each longer prefix
-pub prefix_of-pilots : (plan : SearchPlan) (t u : ℕ) (state later : SearchState) → prefix_of plan t ≡ Ok state → prefix_of plan u ≡ Ok later → t ≤ u
-    → state.pilots ≡ take t later.pilots
+pub prefix_of-pilots : (plan : SearchPlan) (t u : ℕ) (state later : SearchState) → prefix_of plan t ≡ Ok state → prefix_of plan u ≡ Ok later → t ≤ u →
+    state.pilots ≡ take t later.pilots
 prefix_of-pilots plan t u state later ends further before =
     let earlier : IsEarlier plan t later = prefix_of-earlier plan t u later further before in
     ap (λ s. s.pilots) (sym (same_state plan t state later earlier ends)) ∙ earlier.pilots
 
 -- what a prefix of the search has taken, each longer prefix has too
-pub prefix_of-taken : (plan : SearchPlan) (t u : ℕ) (state later : SearchState) → prefix_of plan t ≡ Ok state → prefix_of plan u ≡ Ok later → t ≤ u
-    → TakesMore (contains state.taken) (contains later.taken)
+pub prefix_of-taken : (plan : SearchPlan) (t u : ℕ) (state later : SearchState) → prefix_of plan t ≡ Ok state → prefix_of plan u ≡ Ok later → t ≤ u →
+    TakesMore (contains state.taken) (contains later.taken)
 prefix_of-taken plan t u state later ends further before =
     let earlier : IsEarlier plan t later = prefix_of-earlier plan t u later further before in
     subst (λ (s : SearchState). TakesMore (contains s.taken) (contains later.taken)) (same_state plan t state later earlier ends) earlier.taken
@@ -155,8 +155,8 @@ taken_is plan t state reached =
     (λ p. reached.taken_are_theirs p ∙ sym (contains-from_list_nat (first_positions plan state.pilots t) p))
 
 -- the taken set has as many positions as the first buckets have members
-pub len-taken : (plan : SearchPlan) (t : ℕ) (state : SearchState) → 1 ≤ plan.size → prefix_of plan t ≡ Ok state
-    → len state.taken ≡ member_count (take t plan.buckets)
+pub len-taken : (plan : SearchPlan) (t : ℕ) (state : SearchState) → 1 ≤ plan.size → prefix_of plan t ≡ Ok state →
+    len state.taken ≡ member_count (take t plan.buckets)
 len-taken plan t state room ends =
     let reached : IsReached plan t state = prefix_of-ok plan t state room ends in
     ap len (taken_is plan t state reached) ∙ len-from_list (first_positions plan state.pilots t) reached.distinct

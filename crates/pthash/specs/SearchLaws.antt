@@ -22,8 +22,8 @@ abbrev pub TakesMore : (ℕ → Bool) → (ℕ → Bool) → Type 0
 TakesMore taken larger = (p : ℕ) → larger p ≡ false → taken p ≡ false
 
 -- positions that are free where more is taken are free where less is
-free_of_less : (taken larger : ℕ → Bool) → TakesMore taken larger → (ps : List ℕ) → list_all (λ p. not (larger p)) ps ≡ true
-    → list_all (λ p. not (taken p)) ps ≡ true
+free_of_less : (taken larger : ℕ → Bool) → TakesMore taken larger → (ps : List ℕ) → list_all (λ p. not (larger p)) ps ≡ true →
+    list_all (λ p. not (taken p)) ps ≡ true
 free_of_less taken larger more [] free = refl
 free_of_less taken larger more (p ∷ ps) free =
     let parts = and_parts (not (larger p)) (list_all (λ q. not (larger q)) ps) free in
@@ -46,20 +46,20 @@ fits-more taken larger more ps fails =
     ] refl
 
 -- a pilot of a bucket's members that doesn't fit still doesn't where more is taken
-pub pilot_fits-more : (seed size : ℕ) (taken larger : ℕ → Bool) (members : List ℕ) (k : ℕ) → TakesMore taken larger
-    → pilot_fits seed size taken members k ≡ false → pilot_fits seed size larger members k ≡ false
+pub pilot_fits-more : (seed size : ℕ) (taken larger : ℕ → Bool) (members : List ℕ) (k : ℕ) → TakesMore taken larger →
+    pilot_fits seed size taken members k ≡ false → pilot_fits seed size larger members k ≡ false
 pilot_fits-more seed size taken larger members k more fails = fits-more taken larger more (positions_of seed size members k) fails
 
 -- members of which two are equal are never sent to distinct positions
-pub pilot_fits-repeated : (seed size : ℕ) (taken : ℕ → Bool) (members : List ℕ) (k : ℕ) → is_distinct members ≡ false
-    → pilot_fits seed size taken members k ≡ false
+pub pilot_fits-repeated : (seed size : ℕ) (taken : ℕ → Bool) (members : List ℕ) (k : ℕ) → is_distinct members ≡ false →
+    pilot_fits seed size taken members k ≡ false
 pilot_fits-repeated seed size taken members k twice =
     let positions : List ℕ = positions_of seed size members k in
     and_right (list_all (λ p. not (taken p)) positions) (is_distinct positions) (is_distinct-map_of_repeat (position_of seed size k) members twice)
 
 -- so a bucket of which two members are equal has no pilot
-pub pilot_of-repeated : (seed size limit : ℕ) (taken : ℕ → Bool) (members : List ℕ) → is_distinct members ≡ false
-    → pilot_of seed size limit taken members ≡ None
+pub pilot_of-repeated : (seed size limit : ℕ) (taken : ℕ → Bool) (members : List ℕ) → is_distinct members ≡ false →
+    pilot_of seed size limit taken members ≡ None
 pilot_of-repeated seed size limit taken members twice =
     least_below-none (pilot_fits seed size taken members) limit (λ k below. pilot_fits-repeated seed size taken members k twice)
 
@@ -100,8 +100,8 @@ pub record IsStuck (plan : SearchPlan) (t rank : ℕ) : Type 0 where
   pub no_pilot : (k : ℕ) → k < plan.limit → fits_after plan state.pilots rank k ≡ false
 
 -- a pilot more doesn't change the positions of the buckets before
-same_first_positions : (plan : SearchPlan) (pilots : List ℕ) (k t : ℕ) → t ≤ length pilots
-    → first_positions plan (pilots ++ k ∷ []) t ≡ first_positions plan pilots t
+same_first_positions : (plan : SearchPlan) (pilots : List ℕ) (k t : ℕ) → t ≤ length pilots →
+    first_positions plan (pilots ++ k ∷ []) t ≡ first_positions plan pilots t
 unfolding first_positions
 same_first_positions plan pilots k zero known = refl
 same_first_positions plan pilots k (suc t) known =
@@ -110,8 +110,8 @@ same_first_positions plan pilots k (suc t) known =
     rw (earlier, pilot) refl
 
 -- none of the positions is x, and none is taken
-apart : (x : ℕ) (taken : ℕ → Bool) (ys : List ℕ) → list_all (λ p. not (x == p || taken p)) ys ≡ true
-    → (is_among ys x ≡ false) × (list_all (λ p. not (taken p)) ys ≡ true)
+apart : (x : ℕ) (taken : ℕ → Bool) (ys : List ℕ) → list_all (λ p. not (x == p || taken p)) ys ≡ true →
+    (is_among ys x ≡ false) × (list_all (λ p. not (taken p)) ys ≡ true)
 apart x taken [] free = (refl, refl)
 apart x taken (y ∷ ys) free =
     let parts = and_parts (not (x == y || taken y)) (list_all (λ p. not (x == p || taken p)) ys) free in
@@ -134,8 +134,8 @@ is_distinct-append (x ∷ xs) ys distinct fit =
     (is_distinct-append xs ys first.1 (and_from (list_all (λ p. not (is_among xs p)) ys) (is_distinct ys) away.1 new.1))
 
 -- positions are places of the table
-pub positions_in_table : (plan : SearchPlan) (members : List ℕ) (k : ℕ) → 1 ≤ plan.size
-    → are_in_table plan.size (positions_of plan.seed plan.size members k) ≡ true
+pub positions_in_table : (plan : SearchPlan) (members : List ℕ) (k : ℕ) → 1 ≤ plan.size →
+    are_in_table plan.size (positions_of plan.seed plan.size members k) ≡ true
 positions_in_table plan [] k room = refl
 positions_in_table plan (b ∷ bs) k room =
     let p : ℕ = bit_xor b (pilot_hash k plan.seed) % plan.size in
@@ -165,10 +165,10 @@ contains-positions taken ps p =
     contains-union nat_cmp_total taken (from_list ps) p ∙ ap (λ b. contains taken p || b) (contains-from_list_nat ps p)
 
 -- the facts of the last rank hold of all ranks where they held of the earlier ones
-least_so_far : (plan : SearchPlan) (t k : ℕ) (pilots : List ℕ) → length pilots ≡ t
-    → ((rank : ℕ) → rank < t → IsLeast (fits_after plan pilots rank) plan.limit (slice_index pilots rank))
-    → IsLeast (fits_after plan pilots t) plan.limit k → (rank : ℕ) → rank < suc t → (rank < t) ⊎ (t ≤ rank)
-    → IsLeast (fits_after plan (pilots ++ k ∷ []) rank) plan.limit (slice_index (pilots ++ k ∷ []) rank)
+least_so_far : (plan : SearchPlan) (t k : ℕ) (pilots : List ℕ) → length pilots ≡ t →
+    ((rank : ℕ) → rank < t → IsLeast (fits_after plan pilots rank) plan.limit (slice_index pilots rank)) →
+    IsLeast (fits_after plan pilots t) plan.limit k → (rank : ℕ) → rank < suc t → (rank < t) ⊎ (t ≤ rank) →
+    IsLeast (fits_after plan (pilots ++ k ∷ []) rank) plan.limit (slice_index (pilots ++ k ∷ []) rank)
 least_so_far plan t k pilots known before least rank below side =
     elim side [
       | inl lower ↦
@@ -191,8 +191,8 @@ with_bucket plan rank state k =
     record { pilots = state.pilots ++ k ∷ []; taken = union state.taken (from_list (positions_at plan rank k)) }
 
 -- the next state, where a pilot is found
-one_more_reached : (plan : SearchPlan) (t k : ℕ) (state : SearchState) → 1 ≤ plan.size → IsReached plan t state
-    → IsLeast (fits_at plan (contains state.taken) t) plan.limit k → IsReached plan (suc t) (with_bucket plan t state k)
+one_more_reached : (plan : SearchPlan) (t k : ℕ) (state : SearchState) → 1 ≤ plan.size → IsReached plan t state →
+    IsLeast (fits_at plan (contains state.taken) t) plan.limit k → IsReached plan (suc t) (with_bucket plan t state k)
 unfolding first_positions
 one_more_reached plan t k state room reached least =
     let before : List ℕ = first_positions plan state.pilots t in
@@ -220,8 +220,8 @@ IsReachedOrStuck plan t (Ok state) = IsReached plan t state
 IsReachedOrStuck plan t (Err rank) = IsStuck plan t rank
 
 -- the state or the stuck rank after one bucket more
-after_found : (plan : SearchPlan) (t : ℕ) (state : SearchState) (pilot : Option ℕ) → 1 ≤ plan.size → IsReached plan t state
-    → least_below (fits_at plan (contains state.taken) t) plan.limit ≡ pilot → IsReachedOrStuck plan (suc t) (with_pilot plan t state pilot)
+after_found : (plan : SearchPlan) (t : ℕ) (state : SearchState) (pilot : Option ℕ) → 1 ≤ plan.size → IsReached plan t state →
+    least_below (fits_at plan (contains state.taken) t) plan.limit ≡ pilot → IsReachedOrStuck plan (suc t) (with_pilot plan t state pilot)
 after_found plan t state None room reached found =
     let same : contains state.taken ≡ is_among (first_positions plan state.pilots t) = λ i p. reached.taken_are_theirs p i in
     record {
@@ -235,8 +235,8 @@ after_found plan t state (Some k) room reached found =
     one_more_reached plan t k state room reached (least_below-is_least (fits_at plan (contains state.taken) t) plan.limit k found)
 
 -- the same, where the search may be stuck before
-after_any : (plan : SearchPlan) (t : ℕ) (before : Result SearchState ℕ) → 1 ≤ plan.size → IsReachedOrStuck plan t before
-    → IsReachedOrStuck plan (suc t) (after_bucket plan t before)
+after_any : (plan : SearchPlan) (t : ℕ) (before : Result SearchState ℕ) → 1 ≤ plan.size → IsReachedOrStuck plan t before →
+    IsReachedOrStuck plan (suc t) (after_bucket plan t before)
 after_any plan t (Err rank) room stuck =
     record { below = omega (arith, stuck.below); state = stuck.state; reached = stuck.reached; no_pilot = stuck.no_pilot }
 after_any plan t (Ok state) room reached =

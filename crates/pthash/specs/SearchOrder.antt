@@ -24,8 +24,8 @@ among_numbers buckets rank k within is =
     (eq-eqb (slice_index_or (numbers_of buckets) rank 0) k (here ∙ is))
 
 -- a class that has an element has a member
-filled : (records : List Record) (spread : Map) (m i : ℕ) (d : Record) → i < length records
-    → 0 < length (members_of records spread m (bucket_of spread (slice_index_or records i d).a m))
+filled : (records : List Record) (spread : Map) (m i : ℕ) (d : Record) → i < length records →
+    0 < length (members_of records spread m (bucket_of spread (slice_index_or records i d).a m))
 filled records spread m i d within =
     let k : ℕ = bucket_of spread (slice_index_or records i d).a m in
     let inside : Record → Bool = λ r. bucket_of spread r.a m == k in
@@ -33,8 +33,8 @@ filled records spread m i d within =
     omega (arith, length-map (filter inside records) (λ (r : Record). r.b))
 
 -- the buckets of an order are those of its records
-pub AreBucketsOf-order_of : (records : List Record) (spread : Map) (m : ℕ) → 1 ≤ m
-    → AreBucketsOf (λ r. bucket_of spread r.a m) records (order_of records spread m)
+pub AreBucketsOf-order_of : (records : List Record) (spread : Map) (m : ℕ) → 1 ≤ m →
+    AreBucketsOf (λ r. bucket_of spread r.a m) records (order_of records spread m)
 AreBucketsOf-order_of records spread m some = record {
   theirs = record {
     distinct = numbers_distinct records spread m;

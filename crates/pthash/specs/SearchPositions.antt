@@ -4,10 +4,11 @@ use Rattle.std.specs.Prelude.{List, [], ◌∷◌, ◌++◌, length, map, filter
 use Rattle.std.specs.FinSet.{contains}
 use Rattle.std.specs.List.{list_all}
 use Rattle.std.proofs.Common.{refl, sym, ap, ◌∙◌, subst, arith, add-one, ⊎_elim}
-use Rattle.std.proofs.lemmas.Bool.{and_parts, and_from, not-true, or_left, or_right, cases_eq, eq-eqb, ne_eqb, lt-ltb}
-use Rattle.std.proofs.lemmas.List.{append_assoc, append-nil, take_more, take_all, length-take-le}
-use Rattle.std.proofs.lemmas.List.Folds.{list_any-append}
+use Rattle.std.proofs.lemmas.Bool.{and_parts, and_from, not-true, cases_eq, eq-eqb, ne_eqb, lt-ltb}
+use Rattle.std.proofs.lemmas.List.{get_or_default, append_assoc, append-nil, take_more, take_all, length-take-le}
+use Rattle.std.proofs.lemmas.List.Sums.{list_all-from_AllPass}
 use Rattle.pthash.specs.declared.Record.{Record}
+use Rattle.pthash.specs.DistinctLaws.{is_among-at}
 use Rattle.pthash.specs.Hash.{pilot_hash}
 use Rattle.pthash.specs.Order.{Bucket, bucket_at, numbers_below}
 use Rattle.pthash.specs.Search.{SearchPlan, SearchState, position_of, positions_of, is_among, is_distinct}
@@ -45,8 +46,8 @@ abbrev pub record_position : ℕ → ℕ → List Bucket → List ℕ → (Recor
 record_position seed size buckets pilots class r = position_of seed size (pilot_by_number buckets pilots (class r)) r.b
 
 -- one bucket more at the end
-placed_push : (seed size : ℕ) (buckets : List Bucket) (pilots : List ℕ) (bucket : Bucket) (pilot : ℕ) → length buckets ≡ length pilots
-    → placed seed size (buckets ++ bucket ∷ []) (pilots ++ pilot ∷ []) ≡ placed seed size buckets pilots ++ positions_of seed size bucket.members pilot
+placed_push : (seed size : ℕ) (buckets : List Bucket) (pilots : List ℕ) (bucket : Bucket) (pilot : ℕ) → length buckets ≡ length pilots →
+    placed seed size (buckets ++ bucket ∷ []) (pilots ++ pilot ∷ []) ≡ placed seed size buckets pilots ++ positions_of seed size bucket.members pilot
 placed_push seed size [] [] bucket pilot same = append-nil (positions_of seed size bucket.members pilot)
 placed_push seed size [] (k ∷ pilots) bucket pilot same = absurd (omega arith)
 placed_push seed size (b ∷ buckets) [] bucket pilot same = absurd (omega arith)
@@ -57,8 +58,8 @@ placed_push seed size (b ∷ buckets) (k ∷ pilots) bucket pilot same =
     ∙ sym (append_assoc first (placed seed size buckets pilots) last)
 
 -- the positions by rank are those of the first buckets under the first pilots
-pub first_positions-placed : (plan : SearchPlan) (pilots : List ℕ) (t : ℕ) → t ≤ length plan.buckets → t ≤ length pilots
-    → first_positions plan pilots t ≡ placed plan.seed plan.size (take t plan.buckets) (take t pilots)
+pub first_positions-placed : (plan : SearchPlan) (pilots : List ℕ) (t : ℕ) → t ≤ length plan.buckets → t ≤ length pilots →
+    first_positions plan pilots t ≡ placed plan.seed plan.size (take t plan.buckets) (take t pilots)
 unfolding first_positions
 first_positions-placed plan pilots zero within known = refl
 first_positions-placed plan pilots (suc t) within known =
@@ -84,8 +85,8 @@ passes_in seed size test class buckets pilots r =
     is_among (numbers_of buckets) (class r) && test (record_position seed size buckets pilots class r)
 
 -- of a record in the first bucket or in a later one
-one_of_two : (number class : ℕ) (later first_passes later_passes : Bool) → (number ≡ class → later ≡ false)
-    → one_if ((number == class || later) && cond (number == class) first_passes later_passes)
+one_of_two : (number class : ℕ) (later first_passes later_passes : Bool) → (number ≡ class → later ≡ false) →
+    one_if ((number == class || later) && cond (number == class) first_passes later_passes)
     ≡ one_if (class == number && first_passes) + one_if (later && later_passes)
 one_of_two number class later first_passes later_passes apart =
     ⊎_elim
@@ -94,15 +95,15 @@ one_of_two number class later first_passes later_passes apart =
     (cases_eq number class)
 
 -- a test of the position that a pilot chosen by a condition gives
-test_of_choice : (seed size : ℕ) (test : ℕ → Bool) (b pilot other : ℕ) (choice : Bool)
-    → test (position_of seed size (cond choice pilot other) b) ≡ cond choice (test (position_of seed size pilot b)) (test (position_of seed size other b))
+test_of_choice : (seed size : ℕ) (test : ℕ → Bool) (b pilot other : ℕ) (choice : Bool) →
+    test (position_of seed size (cond choice pilot other) b) ≡ cond choice (test (position_of seed size pilot b)) (test (position_of seed size other b))
 test_of_choice seed size test b pilot other true = refl
 test_of_choice seed size test b pilot other false = refl
 
 -- the records of some buckets have the positions of these buckets, counted by any test
-pub count_of_placed : (seed size : ℕ) (test : ℕ → Bool) (class : Record → ℕ) (records : List Record) (buckets : List Bucket) (pilots : List ℕ)
-    → HaveMembersOf class records buckets → length buckets ≤ length pilots
-    → count_by (passes_in seed size test class buckets pilots) records ≡ count_by test (placed seed size buckets pilots)
+pub count_of_placed : (seed size : ℕ) (test : ℕ → Bool) (class : Record → ℕ) (records : List Record) (buckets : List Bucket) (pilots : List ℕ) →
+    HaveMembersOf class records buckets → length buckets ≤ length pilots →
+    count_by (passes_in seed size test class buckets pilots) records ≡ count_by test (placed seed size buckets pilots)
 count_of_placed seed size test class records [] pilots theirs known = nothing records
   where
     nothing : (rs : List Record) → count_by (λ r. false) rs ≡ 0
@@ -133,8 +134,8 @@ count_of_placed seed size test class records (bucket ∷ buckets) (pilot ∷ pil
     ∙ omega (arith, count_by-append test (positions_of seed size bucket.members pilot) (placed seed size buckets pilots))
 
 -- where each record is inside, a count of what is inside too is the whole count
-count_inside : (inside test : Record → Bool) (records : List Record) → list_all inside records ≡ true
-    → count_by (λ r. inside r && test r) records ≡ count_by test records
+count_inside : (inside test : Record → Bool) (records : List Record) → list_all inside records ≡ true →
+    count_by (λ r. inside r && test r) records ≡ count_by test records
 count_inside inside test [] all = refl
 count_inside inside test (r ∷ records) all =
     let parts = and_parts (inside r) (list_all inside records) all in
@@ -148,9 +149,9 @@ abbrev pub found_position : SearchPlan → SearchState → (Record → ℕ) → 
 found_position plan state class r = record_position plan.seed plan.size plan.buckets state.pilots class r
 
 -- the records of all buckets have the positions that the search took, counted by any test
-pub count_of_found : (plan : SearchPlan) (state : SearchState) (class : Record → ℕ) (records : List Record) (test : ℕ → Bool)
-    → IsReached plan (length plan.buckets) state → AreBucketsOf class records plan.buckets
-    → count_by (λ r. test (found_position plan state class r)) records ≡ count_by test (first_positions plan state.pilots (length plan.buckets))
+pub count_of_found : (plan : SearchPlan) (state : SearchState) (class : Record → ℕ) (records : List Record) (test : ℕ → Bool) →
+    IsReached plan (length plan.buckets) state → AreBucketsOf class records plan.buckets →
+    count_by (λ r. test (found_position plan state class r)) records ≡ count_by test (first_positions plan state.pilots (length plan.buckets))
 count_of_found plan state class records test reached buckets =
     let t : ℕ = length plan.buckets in
     let known : length state.pilots ≡ t = reached.one_pilot_a_rank in
@@ -163,9 +164,9 @@ count_of_found plan state class records test reached buckets =
     ∙ ap (count_by test) (sym (first_positions-placed plan state.pilots t (omega arith) (omega arith)))
 
 -- the positions of the records are pairwise different
-pub found_are_distinct : (plan : SearchPlan) (state : SearchState) (class : Record → ℕ) (records : List Record)
-    → IsReached plan (length plan.buckets) state → AreBucketsOf class records plan.buckets
-    → is_distinct (map (found_position plan state class) records) ≡ true
+pub found_are_distinct : (plan : SearchPlan) (state : SearchState) (class : Record → ℕ) (records : List Record) →
+    IsReached plan (length plan.buckets) state → AreBucketsOf class records plan.buckets →
+    is_distinct (map (found_position plan state class) records) ≡ true
 found_are_distinct plan state class records reached buckets =
     is_distinct-counted (map (found_position plan state class) records)
     (λ p. let same : count_of p (map (found_position plan state class) records) ≡ count_of p (first_positions plan state.pilots (length plan.buckets)) =
@@ -173,8 +174,8 @@ found_are_distinct plan state class records reached buckets =
     omega (arith, count_of-distinct (first_positions plan state.pilots (length plan.buckets)) reached.distinct p))
 
 -- the positions of the records are below the size of the table
-pub found_are_below : (plan : SearchPlan) (state : SearchState) (class : Record → ℕ) (records : List Record) → 1 ≤ plan.size
-    → list_all (λ r. nat_lt (found_position plan state class r) plan.size) records ≡ true
+pub found_are_below : (plan : SearchPlan) (state : SearchState) (class : Record → ℕ) (records : List Record) → 1 ≤ plan.size →
+    list_all (λ r. nat_lt (found_position plan state class r) plan.size) records ≡ true
 found_are_below plan state class [] room = refl
 found_are_below plan state class (r ∷ records) room =
     let p : ℕ = bit_xor r.b (pilot_hash (pilot_by_number plan.buckets state.pilots (class r)) plan.seed) % plan.size in
@@ -190,16 +191,11 @@ all_from_count test (x ∷ xs) none =
       | false ↦ λ some. absurd (omega arith)
     ] (sym (count_by-cons (λ y. not (test y)) x xs) ∙ none)
 
--- each element of a list is among a longer one
-all_among : (before xs : List ℕ) → list_all (is_among (before ++ xs)) xs ≡ true
-all_among before [] = refl
-all_among before (x ∷ xs) =
-    let here : is_among (before ++ x ∷ xs) x ≡ true =
-    list_any-append (λ y. y == x) before (x ∷ xs)
-    ∙ or_right (is_among before x) (x == x || is_among xs x) (or_left (x == x) (is_among xs x) (eq-eqb x x refl)) in
-    let moved : before ++ x ∷ xs ≡ (before ++ x ∷ []) ++ xs = sym (append_assoc before (x ∷ []) xs) in
-    and_from (is_among (before ++ x ∷ xs) x) (list_all (is_among (before ++ x ∷ xs)) xs) here
-    (subst (λ ys. list_all (is_among ys) xs ≡ true) (sym moved) (all_among (before ++ x ∷ []) xs))
+-- each number of a list is among them
+all_among : (xs : List ℕ) → list_all (is_among xs) xs ≡ true
+all_among xs =
+    list_all-from_AllPass (is_among xs) xs
+    (λ i d within. ap (is_among xs) (get_or_default xs i d 0 within) ∙ is_among-at xs i within)
 
 -- where all pass, the count of what fails is none
 count_from_all : (test : ℕ → Bool) (xs : List ℕ) → list_all test xs ≡ true → count_by (λ x. not (test x)) xs ≡ 0
@@ -210,22 +206,22 @@ count_from_all test (x ∷ xs) all =
     ∙ omega (arith, count_from_all test xs parts.1)
 
 -- the positions of the records are taken
-pub found_are_taken : (plan : SearchPlan) (state : SearchState) (class : Record → ℕ) (records : List Record)
-    → IsReached plan (length plan.buckets) state → AreBucketsOf class records plan.buckets
-    → list_all (λ r. contains state.taken (found_position plan state class r)) records ≡ true
+pub found_are_taken : (plan : SearchPlan) (state : SearchState) (class : Record → ℕ) (records : List Record) →
+    IsReached plan (length plan.buckets) state → AreBucketsOf class records plan.buckets →
+    list_all (λ r. contains state.taken (found_position plan state class r)) records ≡ true
 found_are_taken plan state class records reached buckets =
     let all : List ℕ = first_positions plan state.pilots (length plan.buckets) in
     let same : contains state.taken ≡ is_among all = λ i p. reached.taken_are_theirs p i in
-    let none : count_by (λ p. not (is_among all p)) all ≡ 0 = count_from_all (is_among all) all (all_among [] all) in
+    let none : count_by (λ p. not (is_among all p)) all ≡ 0 = count_from_all (is_among all) all (all_among all) in
     let none_found : count_by (λ r. not (is_among all (found_position plan state class r))) records ≡ 0 =
     count_of_found plan state class records (λ p. not (is_among all p)) reached buckets ∙ none in
     subst (λ f. list_all (λ r. f (found_position plan state class r)) records ≡ true) (sym same)
     (all_from_count (λ r. is_among all (found_position plan state class r)) records none_found)
 
 -- as many positions of the table are taken as there are records
-pub count_of_taken : (plan : SearchPlan) (state : SearchState) (class : Record → ℕ) (records : List Record)
-    → IsReached plan (length plan.buckets) state → AreBucketsOf class records plan.buckets
-    → count_by (contains state.taken) (numbers_below plan.size) ≡ length records
+pub count_of_taken : (plan : SearchPlan) (state : SearchState) (class : Record → ℕ) (records : List Record) →
+    IsReached plan (length plan.buckets) state → AreBucketsOf class records plan.buckets →
+    count_by (contains state.taken) (numbers_below plan.size) ≡ length records
 count_of_taken plan state class records reached buckets =
     let all : List ℕ = first_positions plan state.pilots (length plan.buckets) in
     let same : contains state.taken ≡ is_among all = λ i p. reached.taken_are_theirs p i in
