@@ -3,6 +3,7 @@
 
 mod bits;
 mod buckets;
+mod chains;
 mod codes;
 mod files;
 mod hashes;
@@ -11,6 +12,7 @@ mod searches;
 
 pub use bits::set_bits;
 pub use buckets::first_size;
+pub use chains::spill;
 pub use codes::dictionary;
 pub use files::small;
 pub use hashes::position;

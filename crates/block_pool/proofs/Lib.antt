@@ -1,0 +1,6 @@
+pub mod Made
+pub mod Links
+pub mod Extended
+pub mod Dropped
+pub mod Begun
+pub mod Views

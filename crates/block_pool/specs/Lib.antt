@@ -1,0 +1,4 @@
+pub mod Chains
+pub mod Pushing
+pub mod Linking
+pub mod Layout
