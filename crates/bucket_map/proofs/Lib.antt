@@ -11,4 +11,4 @@ pub mod Later
 pub mod Neighbours
 pub mod LeastClash
 pub mod Moved
-pub mod Parts
+pub mod PartitionRecords
