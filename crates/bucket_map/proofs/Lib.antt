@@ -3,10 +3,12 @@ pub mod Counts
 pub mod Placing
 pub mod Ranks
 pub mod Members
+pub mod LayingOut
 pub mod Largest
 pub mod Arranged
+pub mod Held
 pub mod Later
 pub mod Neighbours
 pub mod LeastClash
 pub mod Moved
-pub mod Parts
+pub mod PartitionRecords

@@ -7,5 +7,5 @@ pub mod Grouping
 pub mod Ranking
 pub mod Layout
 pub mod Clash
-pub mod Parting
-pub mod PartLayout
+pub mod PartitionPlaces
+pub mod PartitionLayout

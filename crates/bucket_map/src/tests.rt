@@ -116,13 +116,13 @@ fn each_partition_keeps_the_order_of_the_list(rt: HostRuntime) -> Result<(), Fai
             ordinal,
         })?;
     }
-    let parts = partitioned(rt.alloc(), &records, 4)?;
+    let partitions = partitioned(rt.alloc(), &records, 4)?;
     let wanted: [&[u64]; 4] = [&[1, 3], &[], &[2], &[0, 4]];
-    assert_eq!(rt; parts.len(), 4);
-    for (part, ordinals) in wanted.iter().enumerate() {
-        let part = part as u64;
-        assert!(rt; part < parts.len());
-        let found = parts.records(part);
+    assert_eq!(rt; partitions.len(), 4);
+    for (partition, ordinals) in wanted.iter().enumerate() {
+        let partition = partition as u64;
+        assert!(rt; partition < partitions.len());
+        let found = partitions.records(partition);
         assert_eq!(rt; found.len(), ordinals.len());
         for (r, ordinal) in found.iter().zip(*ordinals) {
             assert_eq!(rt; r.ordinal, *ordinal);

@@ -138,7 +138,10 @@ numbers_below-has (suc n) k below =
     list_any-append (λ y. y == k) (numbers_below n) (n ∷ [])
     ∙ elim (n == k) as (λ b. (n == k) ≡ b → (is_among (numbers_below n) k || (b || false)) ≡ true) [
       | true ↦ λ same. or-true (is_among (numbers_below n) k)
-      | false ↦ λ other. let lower : is_among (numbers_below n) k ≡ true = numbers_below-has n k (let ne : n ≢ k = eqb-false n k other in omega arith) in rw lower refl
+      | false ↦ λ other.
+          let differ : n ≢ k = eqb-false n k other in
+          let lower : is_among (numbers_below n) k ≡ true = numbers_below-has n k (omega arith) in
+          rw lower refl
     ] refl
 
 -- they are distinct
