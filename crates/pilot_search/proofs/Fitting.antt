@@ -3,9 +3,10 @@ use Rattle.std.proofs.Common.{◌≡◌, ℕ, ◌+◌, ◌<◌, Bool, true, fals
 use Rattle.std.specs.Prelude.{not, nat_eq, bit_xor, ◌%◌}
 use Rattle.std.specs.List.{list_all}
 use Rattle.std.proofs.Math.Bool.{and-false}
-use Rattle.std.proofs.lemmas.Bool.{cases_eq, eq-eqb, ne_eqb, and_parts, and_from, or_parts, not-true, not_from_false, or_from}
+use Rattle.std.proofs.lemmas.Bool.{cases_eq, eq-eqb, ne_eqb, and_parts, and_from, or_parts, not-true, not_from_false, or_from, both_ways, false_from_ne_true}
 use Rattle.std.proofs.lemmas.List.{take_more, take-append-drop, get_or-map, length-map}
 use Rattle.std.proofs.lemmas.List.Folds.{list_all-append, list_any-append}
+use Rattle.std.proofs.lemmas.List.Sums.{AllPass-from_list_all}
 use Rattle.pthash.specs.Search.{fits, is_among, is_distinct}
 use Rattle.pilot_search.specs.Table.{positions_under}
 
@@ -83,6 +84,40 @@ fits_at taken ps i p in_range here fit free new =
     let P : ℕ → Type 0 = λ q. (taken q || is_among (take i ps) q) ≡ false in
     let there : (taken (get_or ps i 0) || is_among (take i ps) (get_or ps i 0)) ≡ false = subst P (sym here) (or_from (taken p) (is_among (take i ps) p) free new) in
     fits_more taken ps i in_range ∙ ap (λ b. fits taken (take i ps) && not b) there ∙ ap (λ b. b && true) fit
+
+-- one more number is distinct from the others
+pub distinct_at : (xs : List ℕ) (i x : ℕ) → i < length xs → get_or xs i 0 ≡ x → is_distinct (take i xs) ≡ true → is_among (take i xs) x ≡ false → is_distinct (take (i + 1) xs) ≡ true
+distinct_at xs i x in_range here distinct new =
+    ap is_distinct (take_more xs i 0 in_range ∙ ap (λ y. take i xs ++ y ∷ []) here) ∙ is_distinct-push (take i xs) x ∙ rw (distinct, new) refl
+
+-- numbers of which one is among the earlier ones repeat
+pub repeats_at : (xs : List ℕ) (i x : ℕ) → i < length xs → get_or xs i 0 ≡ x → is_among (take i xs) x ≡ true → is_distinct xs ≡ false
+repeats_at xs i x in_range here again =
+    let front : is_distinct (take (i + 1) xs) ≡ false =
+    ap is_distinct (take_more xs i 0 in_range ∙ ap (λ y. take i xs ++ y ∷ []) here) ∙ is_distinct-push (take i xs) x ∙ ap (λ b. is_distinct (take i xs) && not b) again ∙ and-false (is_distinct (take i xs)) in
+    false_from_ne_true (is_distinct xs) (λ distinct. both_ways (is_distinct (take (i + 1) xs)) front (is_distinct_part (take (i + 1) xs) (drop (i + 1) xs) (ap is_distinct (take-append-drop (i + 1) xs) ∙ distinct)))
+
+-- what is not so is so
+pub known_from_not : (b : Bool) → not b ≡ false → b ≡ true
+known_from_not true known = refl
+known_from_not false known = absurd cc
+
+-- one number is distinct
+pub distinct_one : (xs : List ℕ) → is_distinct (take 1 xs) ≡ true
+distinct_one [] = refl
+distinct_one (x ∷ xs) = refl
+
+-- one more position is free
+pub free_at : (taken : ℕ → Bool) (ps : List ℕ) (i p : ℕ) → i < length ps → get_or ps i 0 ≡ p → list_all (λ q. not (taken q)) (take i ps) ≡ true → taken p ≡ false → list_all (λ q. not (taken q)) (take (i + 1) ps) ≡ true
+free_at taken ps i p in_range here free new =
+    ap (list_all (λ q. not (taken q))) (take_more ps i 0 in_range ∙ ap (λ y. take i ps ++ y ∷ []) here)
+    ∙ list_all-append (λ q. not (taken q)) (take i ps) (p ∷ []) ∙ rw (free, new) refl
+
+-- positions of which one is taken are not all free
+pub taken_at : (taken : ℕ → Bool) (ps : List ℕ) (i p : ℕ) → i < length ps → get_or ps i 0 ≡ p → taken p ≡ true → list_all (λ q. not (taken q)) ps ≡ false
+taken_at taken ps i p in_range here known =
+    false_from_ne_true (list_all (λ q. not (taken q)) ps) (λ free.
+    both_ways (taken (get_or ps i 0)) (not-true (taken (get_or ps i 0)) (AllPass-from_list_all (λ q. not (taken q)) ps free i 0 in_range)) (ap taken here ∙ known))
 
 -- the position of one member
 pub get_or-positions_under : (hash size : ℕ) (members : List ℕ) (i : ℕ) → i < length members → get_or (positions_under hash size members) i 0 ≡ bit_xor (get_or members i 0) hash % size

@@ -1,4 +1,5 @@
 pub mod Words
+pub mod MarkLemmas
 pub mod BucketCounts
 pub mod Fitting
 pub mod Steps

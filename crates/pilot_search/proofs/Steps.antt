@@ -1,14 +1,15 @@
 -- How a search goes from one bucket to the next.
-use Rattle.std.proofs.Common.{◌≡◌, ◌≢◌, Bool, refl, ℕ, suc, ◌+◌, ◌<◌, ◌≤◌, List, [], length, take, Some, None, Ok, Err, sym, ap, ◌∙◌, add-one, arith, ⊎_elim}
+use Rattle.std.proofs.Common.{◌≡◌, ◌≢◌, Result, Bool, refl, ℕ, suc, ◌+◌, ◌-◌, ◌<◌, ◌≤◌, List, [], ◌∷◌, ◌++◌, length, take, Some, None, Ok, Err, Result, sym, ap, ◌∙◌, add-one, arith, ⊎_elim}
 use Rattle.std.specs.Prelude.{slice_set, slice_index, replicate}
 use Rattle.std.proofs.lemmas.Bool.{cases_lt}
-use Rattle.std.proofs.lemmas.List.{take_more_set, take_all, length-set, length-replicate, get_or-set_other, get_or-replicate, get_or_past}
+use Rattle.std.proofs.lemmas.List.{length-take, get_or-take, get_or-append_right, take_more_set, take_all, length-set, length-replicate, get_or-set_other, get_or-replicate, get_or_past}
 use Rattle.std.specs.FinSet.{empty, contains, union, from_list}
 use Rattle.pthash.specs.Order.{bucket_at}
-use Rattle.pthash.specs.Search.{SearchPlan, positions_of, pilot_of, with_pilot, after_bucket, prefix_of, search_of}
+use Rattle.pthash.specs.PrefixLaws.{IsEarlier, HasStep, length-pilots, prefix_of-step, prefix_of-earlier}
+use Rattle.pthash.specs.Search.{SearchPlan, SearchState, positions_of, pilot_of, with_pilot, after_bucket, prefix_of, search_of}
 use Rattle.pthash.specs.SearchLaws.{stuck_stays}
 use Rattle.pilot_search.specs.Table.{Table}
-use Rattle.pilot_search.specs.Outcome.{IsSearchedTo}
+use Rattle.pilot_search.specs.Outcome.{IsSearchedTo, AreFirstPilots}
 
 -- before any bucket
 pub started : (plan : SearchPlan) (pilots : List ℕ) (table : Table) → pilots ≡ replicate (length plan.buckets) 0 → table.taken ≡ empty → table.size ≡ plan.size → IsSearchedTo plan 0 pilots table
@@ -73,6 +74,37 @@ stuck_here plan rank pilots table known so_far none =
     let here : prefix_of plan (suc rank) ≡ Err rank =
     ap (after_bucket plan rank) so_far.state ∙ ap (with_pilot plan rank (record { pilots = take rank pilots; taken = table.taken })) none in
     stuck_stays plan (suc rank) rank (length plan.buckets) here (omega arith)
+
+-- no more buckets are placed than there are
+pub done_within : (plan : SearchPlan) (t : ℕ) (pilots : List ℕ) (table : Table) → IsSearchedTo plan t pilots table → t ≤ length plan.buckets
+done_within plan t pilots table so_far =
+    let count : length (take t pilots) ≡ t = length-pilots plan t (record { pilots = take t pilots; taken = table.taken }) so_far.state in
+    omega (arith, count, length-take t pilots, so_far.one_number_a_rank)
+
+-- the pilot of the next bucket, where a longer prefix of the search is known
+pub known_pilot : (plan : SearchPlan) (rank : ℕ) (pilots known : List ℕ) (table : Table) → IsSearchedTo plan rank pilots table → AreFirstPilots plan known → rank < length known
+    → pilot_of plan.seed plan.size plan.limit (contains table.taken) (bucket_at plan.buckets rank).members ≡ Some (slice_index known rank)
+known_pilot plan rank pilots known table so_far theirs in_range =
+    let here : SearchState = record { pilots = take rank pilots; taken = table.taken } in
+    let earlier : IsEarlier plan (suc rank) theirs.state = prefix_of-earlier plan (suc rank) (length known) theirs.state theirs.reached (omega arith) in
+    let step : HasStep plan rank earlier.state = prefix_of-step plan rank earlier.state earlier.ends in
+    let ends : prefix_of plan rank ≡ Ok step.state = step.ends in
+    let same : step.state ≡ here = ok_same step.state here (prefix_of plan rank) ends so_far.state in
+    let count : length step.state.pilots ≡ rank = length-pilots plan rank step.state ends in
+    let gives : step.state.pilots ++ step.pilot ∷ [] ≡ take (suc rank) known =
+    ap (λ (s : SearchState). s.pilots) step.gives ∙ earlier.pilots ∙ ap (take (suc rank)) theirs.same_pilots in
+    let first : slice_index (step.state.pilots ++ step.pilot ∷ []) rank ≡ step.pilot = pilot_at_end step.state.pilots step.pilot rank count in
+    let last : slice_index (take (suc rank) known) rank ≡ slice_index known rank = get_or-take (suc rank) known rank 0 (omega arith) in
+    let is : step.pilot ≡ slice_index known rank = sym first ∙ ap (λ ps. slice_index ps rank) gives ∙ last in
+    ap (λ (s : SearchState). pilot_of plan.seed plan.size plan.limit (contains s.taken) (bucket_at plan.buckets rank).members) (sym same) ∙ step.found ∙ ap Some is
+  where
+    ok_same : (s t : SearchState) (r : Result SearchState ℕ) → r ≡ Ok s → r ≡ Ok t → s ≡ t
+    ok_same s t r first second = cc
+
+    pilot_at_end : (ps : List ℕ) (k t : ℕ) → length ps ≡ t → slice_index (ps ++ k ∷ []) t ≡ k
+    pilot_at_end ps k t known =
+        let none : t - t ≡ 0 = omega arith in
+        get_or-append_right ps (k ∷ []) t t 0 known (omega arith) ∙ rw none refl
 
 -- after all buckets
 pub finished : (plan : SearchPlan) (pilots : List ℕ) (table : Table) → IsSearchedTo plan (length plan.buckets) pilots table → search_of plan ≡ Ok (record { pilots = pilots; taken = table.taken })

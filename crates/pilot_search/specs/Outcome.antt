@@ -1,7 +1,7 @@
 -- What a search has placed, and where it is stuck.
 use Rattle.std.specs.Prelude.{◌≡◌, ℕ, ◌≤◌, List, length, take, slice_index, Ok, Err}
 use Rattle.pthash.specs.Order.{bucket_at}
-use Rattle.pthash.specs.Search.{SearchPlan, prefix_of, search_of}
+use Rattle.pthash.specs.Search.{SearchPlan, SearchState, prefix_of, search_of}
 use Rattle.pilot_search.specs.Table.{Table}
 use Rattle.pilot_search.specs.declared.placing.Placed.{Placed}
 use Rattle.pilot_search.specs.declared.placing.Stuck.{Stuck}
@@ -16,6 +16,13 @@ pub record IsSearchedTo (plan : SearchPlan) (t : ℕ) (pilots : List ℕ) (table
 -- what is placed is the state of the search after its first `done` buckets
 abbrev pub IsPlacedSoFar : SearchPlan → Placed → Type 0
 IsPlacedSoFar plan placed = IsSearchedTo plan placed.done placed.pilots.items placed.occupied
+
+-- these are the pilots of the first buckets
+pub record AreFirstPilots (plan : SearchPlan) (pilots : List ℕ) : Type 0 where
+  pub within : length pilots ≤ length plan.buckets
+  pub state : SearchState
+  pub reached : prefix_of plan (length pilots) ≡ Ok state
+  pub same_pilots : state.pilots ≡ pilots
 
 -- what is placed is the state in which the whole search ends
 pub record IsPlaced (plan : SearchPlan) (placed : Placed) : Type 0 where

@@ -1,39 +1,17 @@
 // The least pilot that sends the keys of one bucket to distinct free positions.
 
-ghost use Rattle.std.specs.Prelude.{◌≡◌, ◌<◌, ◌≤◌, length, take, IsTrue, IfSome};
+ghost use Rattle.std.specs.Prelude.{◌≡◌, ◌<◌, ◌≤◌, [], length, take, min, IfSome};
 ghost use Rattle.std.specs.FinSet.{contains};
-ghost use Rattle.pthash.specs.Search.{fits, pilot_fits, pilot_of, positions_of};
-ghost use Rattle.pthash.specs.Least.{FailsBelow};
-ghost use Rattle.pilot_search.specs.Table.{positions_under};
+ghost use Rattle.pthash.specs.Search.{pilot_fits, positions_of};
+ghost use Rattle.pthash.specs.Least.{FailsBelow, IsAnswer};
+ghost use Rattle.pilot_search.specs.Kept.{AreHashes};
+ghost use Rattle.pilot_search.specs.Marking.{AreMarks};
 
+use crate::fit::is_fit;
 use crate::occupancy::Occupancy;
+use crate::repeats::{FEW, are_distinct};
 use divisor::Divisor;
 use murmur64::pilot_hash;
-
-// Whether a pilot of this hash fits; then `positions` begins with the members' positions.
-fn is_fit(
-    members: &[u64],
-    hash: u64,
-    size: &Divisor,
-    occupied: &Occupancy,
-    positions: &mut [u64],
-) -> bool
-    requires room { length members.now ≤ length positions.old }
-    requires size { size.now ≡ occupied.now.size }
-    ensures fits { let places = positions_under hash occupied.now.size members.now in
-        result ≡ fits (contains occupied.now.taken) places }
-    ensures positions { let places = positions_under hash occupied.now.size members.now in
-        IsTrue result → take (length members.now) positions.new ≡ places }
-{
-    for (i, member) in members.iter().enumerate() {
-        let position = size.remainder(*member ^ hash);
-        if occupied.contains(position) || positions[..i].contains(&position) {
-            return false;
-        }
-        positions[i] = position;
-    }
-    true
-}
 
 // The pilot of a bucket with these members, sought from `first` on, and then its positions.
 pub(crate) fn find_pilot(
@@ -43,19 +21,96 @@ pub(crate) fn find_pilot(
     limit: u64,
     size: &Divisor,
     occupied: &Occupancy,
+    hashes: &[u64],
     positions: &mut [u64],
+    marks: &mut [u64],
 ) -> Option<u64>
     requires room { length members.now ≤ length positions.old }
-    requires divisor { size.now ≡ occupied.now.size }
+    requires size { size.now ≡ occupied.now.size }
+    requires hashes { AreHashes seed hashes.now }
+    requires marks { AreMarks marks.old [] }
     requires no_lower { let fit = pilot_fits seed size.now (contains occupied.now.taken) in
         FailsBelow (fit members.now) first }
-    ensures pilot { let taken = contains occupied.now.taken in
-        result ≡ pilot_of seed size.now limit taken members.now }
+    ensures pilot { let fit = pilot_fits seed size.now (contains occupied.now.taken) in
+        IsAnswer (fit members.now) limit result }
     ensures positions { let places = positions_of seed size.now members.now in
         IfSome result (λ k. take (length members.now) positions.new ≡ places k) }
+    ensures marks { AreMarks marks.new [] }
 {
-    for pilot in first..limit {
-        if is_fit(members, pilot_hash(pilot, seed), size, occupied, positions) {
+    if members.len() > FEW {
+        if !are_distinct(members, marks) {
+            return None;
+        }
+    }
+    match find_kept(members, first, seed, limit, size, occupied, hashes, positions, marks) {
+        Some(pilot) => Some(pilot),
+        None => find_beyond(members, first, seed, limit, size, occupied, hashes, positions, marks),
+    }
+}
+
+// The pilot, if it is among those whose hashes are kept.
+fn find_kept(
+    members: &[u64],
+    first: u64,
+    seed: u64,
+    limit: u64,
+    size: &Divisor,
+    occupied: &Occupancy,
+    hashes: &[u64],
+    positions: &mut [u64],
+    marks: &mut [u64],
+) -> Option<u64>
+    requires room { length members.now ≤ length positions.old }
+    requires size { size.now ≡ occupied.now.size }
+    requires hashes { AreHashes seed hashes.now }
+    requires marks { AreMarks marks.old [] }
+    requires no_lower { let fit = pilot_fits seed size.now (contains occupied.now.taken) in
+        FailsBelow (fit members.now) first }
+    ensures pilot { let fit = pilot_fits seed size.now (contains occupied.now.taken) in
+        IsAnswer (fit members.now) (min limit (length hashes.now)) result }
+    ensures positions { let places = positions_of seed size.now members.now in
+        IfSome result (λ k. take (length members.now) positions.new ≡ places k) }
+    ensures marks { AreMarks marks.new [] }
+{
+    for pilot in first..limit.min(hashes.len() as u64) {
+        if is_fit(members, hashes[pilot as usize], size, occupied, positions, marks) {
+            return Some(pilot);
+        }
+    }
+    None
+}
+
+// The pilot, if none of those whose hashes are kept fits. Equal members have no pilot.
+fn find_beyond(
+    members: &[u64],
+    first: u64,
+    seed: u64,
+    limit: u64,
+    size: &Divisor,
+    occupied: &Occupancy,
+    hashes: &[u64],
+    positions: &mut [u64],
+    marks: &mut [u64],
+) -> Option<u64>
+    requires room { length members.now ≤ length positions.old }
+    requires size { size.now ≡ occupied.now.size }
+    requires marks { AreMarks marks.old [] }
+    requires no_lower { let fit = pilot_fits seed size.now (contains occupied.now.taken) in
+        FailsBelow (fit members.now) first }
+    requires none_kept { let fit = pilot_fits seed size.now (contains occupied.now.taken) in
+        FailsBelow (fit members.now) (min limit (length hashes.now)) }
+    ensures pilot { let fit = pilot_fits seed size.now (contains occupied.now.taken) in
+        IsAnswer (fit members.now) limit result }
+    ensures positions { let places = positions_of seed size.now members.now in
+        IfSome result (λ k. take (length members.now) positions.new ≡ places k) }
+    ensures marks { AreMarks marks.new [] }
+{
+    if !are_distinct(members, marks) {
+        return None;
+    }
+    let kept = limit.min(hashes.len() as u64);
+    for pilot in first.max(kept)..limit {
+        if is_fit(members, pilot_hash(pilot, seed), size, occupied, positions, marks) {
             return Some(pilot);
         }
     }

@@ -3,12 +3,11 @@
 ghost use Rattle.std.specs.Prelude.{◌≡◌, ◌+◌, ◌<◌, ◌≤◌, length, OnOk, IfOk, IfErr};
 ghost use Rattle.std.specs.FinSet as set;
 ghost use Rattle.pthash.specs.Order.{bucket_at, most_members};
-ghost use Rattle.pthash.specs.Search.{fits, pilot_fits};
+ghost use Rattle.pthash.specs.Search.{pilot_fits};
 ghost use Rattle.pthash.specs.Least.{FailsBelow};
 ghost use Rattle.pilot_search.specs.Outcome.{IsSearchedTo, IsPlacedSoFar, IsPlaced, IsStuckAt};
 
 use crate::occupancy::Occupancy;
-use crate::pilot::find_pilot;
 use crate::plan::Plan;
 use crate::scratch::Scratch;
 use bucket_map::NoMemory;
@@ -47,17 +46,17 @@ impl Placed {
 }
 
 // Gives the bucket at a rank its pilot, sought from `first` on.
-fn place_bucket(
+pub(crate) fn place_bucket(
     plan: &Plan,
     rank: u64,
     first: u64,
     size: &Divisor,
     pilots: &mut [u64],
     occupied: &mut Occupancy,
-    positions: &mut [u64],
+    scratch: &mut Scratch,
 ) -> Result<(), Stuck>
     requires rank { rank < length plan.now.buckets }
-    requires room { most_members plan.now.buckets ≤ length positions.old }
+    requires room { most_members plan.now.buckets ≤ scratch.old.members }
     requires so_far { IsSearchedTo plan.now rank pilots.old occupied.old }
     requires divisor { size.now ≡ plan.now.size }
     requires no_lower { let members = (bucket_at plan.now.buckets rank).members in
@@ -65,20 +64,13 @@ fn place_bucket(
         FailsBelow (fit members) first }
     ensures placed { OnOk result (IsSearchedTo plan.now (rank + 1) pilots.new occupied.new) }
     ensures stuck { IfErr result (λ stuck. IsStuckAt plan.now stuck) }
+    ensures room { scratch.new.members ≡ scratch.old.members }
 {
     let members = plan.members(rank);
-    match find_pilot(
-        members,
-        first,
-        plan.seed(),
-        plan.limit(),
-        size,
-        occupied,
-        positions,
-    ) {
+    match scratch.find_pilot(members, first, plan.seed(), plan.limit(), size, occupied) {
         Some(pilot) => {
             pilots[rank as usize] = pilot;
-            occupied.take_all(&positions[..members.len()]);
+            occupied.take_all(scratch.positions());
             Ok(())
         }
         None => {
@@ -94,25 +86,25 @@ fn place_ranks(
     start: u64,
     pilots: &mut [u64],
     occupied: &mut Occupancy,
-    positions: &mut [u64],
+    scratch: &mut Scratch,
 ) -> Result<(), Stuck>
     requires start { start ≤ length plan.now.buckets }
-    requires room { most_members plan.now.buckets ≤ length positions.old }
+    requires room { most_members plan.now.buckets ≤ scratch.old.members }
     requires so_far { IsSearchedTo plan.now start pilots.old occupied.old }
     ensures placed { let ranks = length plan.now.buckets in
         OnOk result (IsSearchedTo plan.now ranks pilots.new occupied.new) }
     ensures stuck { IfErr result (λ stuck. IsStuckAt plan.now stuck) }
+    ensures room { scratch.new.members ≡ scratch.old.members }
 {
     let size = Divisor::new(plan.size());
     for rank in start..plan.ranks() {
-        place_bucket(plan, rank, 0, &size, pilots, occupied, positions)?;
+        place_bucket(plan, rank, 0, &size, pilots, occupied, scratch)?;
     }
     Ok(())
 }
 
 /// Goes on with a search, to its end or to the bucket at which it is stuck.
 pub fn place_from(plan: &Plan, placed: Placed, scratch: &mut Scratch) -> Result<Placed, Stuck>
-    requires done { placed.done ≤ length plan.now.buckets }
     requires so_far { IsPlacedSoFar plan.now placed }
     requires room { most_members plan.now.buckets ≤ scratch.old.members }
     ensures placed { IfOk result (λ placed. IsPlaced plan.now placed) }
@@ -120,13 +112,7 @@ pub fn place_from(plan: &Plan, placed: Placed, scratch: &mut Scratch) -> Result<
     ensures room { scratch.new.members ≡ scratch.old.members }
 {
     let mut placed = placed;
-    place_ranks(
-        plan,
-        placed.done,
-        &mut placed.pilots,
-        &mut placed.occupied,
-        &mut scratch.positions,
-    )?;
+    place_ranks(plan, placed.done, &mut placed.pilots, &mut placed.occupied, scratch)?;
     placed.done = plan.ranks();
     Ok(placed)
 }

@@ -1,26 +1,51 @@
-// The room that a search needs.
+// What a search is lent, so that it takes no memory.
 
-ghost use Rattle.std.specs.Prelude.{◌≡◌, ◌≤◌, IfOk};
+ghost use Rattle.std.specs.Prelude.{◌≡◌, ◌≤◌, [], length, take, IfOk, IfSome};
+ghost use Rattle.std.specs.FinSet.{contains};
+ghost use Rattle.pthash.specs.declared.TheConstants.{MAX_POSITIONS};
 ghost use Rattle.pthash.specs.Order.{most_members};
+ghost use Rattle.pthash.specs.Search.{is_distinct, pilot_fits, positions_of};
+ghost use Rattle.pthash.specs.Least.{FailsBelow, IsAnswer};
+ghost use Rattle.pilot_search.specs.Kept.{AreHashes};
+ghost use Rattle.pilot_search.specs.Marking.{AreMarks};
+ghost use Rattle.pilot_search.specs.Table.{positions_under};
 
+use crate::occupancy::Occupancy;
+use crate::pilot::find_pilot;
 use crate::plan::Plan;
+use crate::repeats::are_distinct;
 use bucket_map::NoMemory;
-use std::alloc::Global;
+use divisor::Divisor;
+use murmur64::pilot_hash;
+use std::alloc::{AllocError, Global};
 use std::marker::Model;
 
-/// The room in which a search computes the positions of one bucket.
+// The most hashes of pilots that are kept.
+const MOST_HASHES: u64 = 4096;
+
+/// The room of a search: for the positions of one bucket, and for hashes of pilots.
 #[derive(Drop)]
 pub struct Scratch {
-    pub(crate) positions: Vec<u64>,
+    positions: Vec<u64>,
+    // how many positions were computed last
+    used: u64,
+    marks: Vec<u64>,
+    // the hashes of the first pilots
+    hashes: Vec<u64>,
+    seed: u64,
 }
 
 impl Model for Scratch {
-    ghost use Rattle.std.specs.Prelude.{length};
-    ghost use Rattle.pilot_search.specs.Room.{Room};
+    ghost use Rattle.std.specs.Prelude.{length, take};
+    ghost use Rattle.pilot_search.specs.Room.{Room, IsRoom};
 
     ghost Value = { Room };
 
-    ghost view = { λ a. record { members = length a.positions.items } };
+    ghost view = { λ a.
+        record { members = length a.positions.items; positions = take a.used a.positions.items } };
+
+    ghost invariant = { λ a.
+        IsRoom a.positions.items a.used a.marks.items a.hashes.items a.seed };
 }
 
 impl Scratch {
@@ -28,7 +53,144 @@ impl Scratch {
     pub fn new(alloc: Global, plan: &Plan) -> Result<Self, NoMemory>
         ensures { IfOk result (λ scratch. most_members plan.now.buckets ≤ scratch.members) }
     {
-        let positions = vec![in alloc; 0; plan.largest() as usize]?;
-        Ok(Self { positions })
+        let count = MOST_HASHES.min(64 + plan.size() / 16);
+        Ok(room_for(alloc, plan.largest(), count, plan.seed())?)
+    }
+
+    /// Room for buckets of at most so many members, of whatever plan.
+    pub fn with(alloc: Global, members: u64) -> Result<Self, NoMemory>
+        requires { members ≤ MAX_POSITIONS }
+        ensures { IfOk result (λ scratch. scratch.members ≡ members) }
+    {
+        Ok(room_for(alloc, members, MOST_HASHES, 0)?)
+    }
+
+    /// The positions that were computed last, in the order of the bucket's members.
+    #[inline]
+    pub fn positions(&self) -> &[u64]
+        ensures { result.now ≡ self.now.positions }
+    {
+        &self.positions[..self.used as usize]
+    }
+
+    // How many members a bucket may have.
+    pub(crate) fn members(&self) -> u64
+        ensures { result ≡ self.now.members }
+    {
+        self.positions.len() as u64
+    }
+
+    // The pilot of a bucket with these members, sought from `first` on, and then its positions.
+    pub(crate) fn find_pilot(
+        &mut self,
+        members: &[u64],
+        first: u64,
+        seed: u64,
+        limit: u64,
+        size: &Divisor,
+        occupied: &Occupancy,
+    ) -> Option<u64>
+        requires room { length members.now ≤ self.old.members }
+        requires size { size.now ≡ occupied.now.size }
+        requires no_lower { let fit = pilot_fits seed size.now (contains occupied.now.taken) in
+            FailsBelow (fit members.now) first }
+        ensures pilot { let fit = pilot_fits seed size.now (contains occupied.now.taken) in
+            IsAnswer (fit members.now) limit result }
+        ensures positions { let places = positions_of seed size.now members.now in
+            IfSome result (λ k. self.new.positions ≡ places k) }
+        ensures room { self.new.members ≡ self.old.members }
+    {
+        keep_hashes(&mut self.hashes, self.seed, seed);
+        self.seed = seed;
+        self.used = members.len() as u64;
+        find_pilot(
+            members,
+            first,
+            seed,
+            limit,
+            size,
+            occupied,
+            &self.hashes,
+            &mut self.positions,
+            &mut self.marks,
+        )
+    }
+
+    // The positions of members under a pilot, and whether they are distinct.
+    pub(crate) fn spread(&mut self, members: &[u64], pilot: u64, seed: u64, size: &Divisor) -> bool
+        requires room { length members.now ≤ self.old.members }
+        ensures positions { self.new.positions ≡ positions_of seed size.now members.now pilot }
+        ensures distinct { result ≡ is_distinct (positions_of seed size.now members.now pilot) }
+        ensures room { self.new.members ≡ self.old.members }
+    {
+        self.used = members.len() as u64;
+        write_positions(members, pilot_hash(pilot, seed), size, &mut self.positions);
+        are_distinct(&self.positions[..members.len()], &mut self.marks)
+    }
+}
+
+// Room for these members and so many hashes of pilots.
+fn room_for(alloc: Global, members: u64, count: u64, seed: u64) -> Result<Scratch, AllocError>
+    requires members { members ≤ MAX_POSITIONS }
+    requires count { count ≤ 4096 }
+    ensures { IfOk result (λ scratch. scratch.members ≡ members) }
+{
+    let positions = vec![in alloc; 0; members as usize]?;
+    let marks = no_marks(alloc, members)?;
+    let hashes = hashes_of(alloc, count, seed)?;
+    Ok(Scratch {
+        positions,
+        used: 0,
+        marks,
+        hashes,
+        seed,
+    })
+}
+
+// One to two bytes of marks for each member.
+fn no_marks(alloc: Global, members: u64) -> Result<Vec<u64>, AllocError>
+    requires { members ≤ MAX_POSITIONS }
+    ensures { IfOk result (λ marks. AreMarks marks.items []) }
+{
+    let words = (members / 8 + 1).next_power_of_two();
+    vec![in alloc; 0; words as usize]
+}
+
+fn hashes_of(alloc: Global, count: u64, seed: u64) -> Result<Vec<u64>, AllocError>
+    requires { count ≤ 4096 }
+    ensures { IfOk result (λ hashes. AreHashes seed hashes.items) }
+{
+    let mut hashes = vec![in alloc; 0; count as usize]?;
+    fill_hashes(hashes.as_mut_slice(), seed);
+    Ok(hashes)
+}
+
+// Makes kept hashes those of a seed.
+#[inline]
+fn keep_hashes(hashes: &mut [u64], kept: u64, seed: u64)
+    requires { AreHashes kept hashes.old }
+    ensures { AreHashes seed hashes.new }
+{
+    if kept != seed {
+        fill_hashes(hashes, seed);
+    }
+}
+
+// Writes the hash of each pilot to its place.
+fn fill_hashes(hashes: &mut [u64], seed: u64)
+    ensures { AreHashes seed hashes.new }
+{
+    for pilot in 0..hashes.len() {
+        hashes[pilot] = pilot_hash(pilot as u64, seed);
+    }
+}
+
+// Writes the position of each member to its place.
+fn write_positions(members: &[u64], hash: u64, size: &Divisor, positions: &mut [u64])
+    requires { length members.now ≤ length positions.old }
+    ensures { take (length members.now) positions.new ≡ positions_under hash size.now members.now }
+{
+    for (i, member) in members.iter().enumerate() {
+        positions[i] = size.remainder(*member ^ hash);
     }
 }

@@ -7,6 +7,8 @@ const SEED_OF_ZERO: u64 = 3_829_533_694_005_038_248;
 
 const SIZE: u64 = 5;
 
+const PILOTS: u64 = 16_777_216;
+
 // A pair of hashes of a key, of which no more is known.
 fn record(a: u64, b: u64) -> Record {
     Record { a, b, ordinal: 0 }
@@ -31,22 +33,105 @@ fn searches_end_as_worked_by_hand(rt: HostRuntime) -> Result<(), Fail> {
             limit: 1,
             buckets: ordered_buckets(rt.alloc(), records, Map::Skewed, 7)?,
         };
-        match (place(rt.alloc(), &plan)?, outcome) {
-            (Ok(found), Ok((pilots, positions))) => {
-                assert_eq!(rt; found.pilots.as_slice(), pilots);
-                assert_eq!(rt; found.done, plan.ranks());
-                assert_eq!(rt; found.occupied.count(), positions.len() as u64);
-                for position in 0..SIZE {
-                    assert!(rt; position < found.occupied.size());
-                    assert_eq!(rt;
-                        found.occupied.contains(position),
-                        positions.contains(&position),
-                        "position {position}"
-                    );
+        let answers = [
+            place(rt.alloc(), &plan)?,
+            place_rounds(&rt, rt.alloc(), &plan, 2)?,
+            place_rounds(&rt, rt.alloc(), &plan, 64)?,
+        ];
+        for answer in answers {
+            match (answer, outcome) {
+                (Ok(found), Ok((pilots, positions))) => {
+                    assert_eq!(rt; found.pilots.as_slice(), pilots);
+                    assert_eq!(rt; found.done, plan.ranks());
+                    assert_eq!(rt; found.occupied.count(), positions.len() as u64);
+                    for position in 0..SIZE {
+                        assert!(rt; position < found.occupied.size());
+                        assert_eq!(rt;
+                            found.occupied.contains(position),
+                            positions.contains(&position),
+                            "position {position}"
+                        );
+                    }
                 }
+                (Err(stuck), Err(expected)) => assert_eq!(rt; stuck, expected),
+                _ => panic!(rt; "a search ended otherwise"),
             }
-            (Err(stuck), Err(expected)) => assert_eq!(rt; stuck, expected),
-            _ => panic!(rt; "a search ended otherwise"),
+        }
+    }
+    Ok(())
+}
+
+#[test]
+fn one_bucket_after_another_without_a_plan(rt: HostRuntime) -> Result<(), Fail> {
+    let mut occupied = Occupancy::new(rt.alloc(), SIZE)?;
+    let mut scratch = Scratch::with(rt.alloc(), 2)?;
+    let first = place_one(SEED_OF_ZERO, 1, &[0, 1], &mut occupied, &mut scratch);
+    assert_eq!(rt; first, Some(0));
+    assert_eq!(rt; scratch.positions(), [0, 1].as_slice());
+    let second = place_one(SEED_OF_ZERO, 1, &[6], &mut occupied, &mut scratch);
+    assert_eq!(rt; second, None);
+    assert_eq!(rt; occupied.count(), 2);
+    Ok(())
+}
+
+// The pilots are those of an independent program.
+#[test]
+fn pilots_of_one_bucket(rt: HostRuntime) -> Result<(), Fail> {
+    let odd: u64 = 0x9e37_79b9_7f4a_7c15;
+    let cases: [(u64, u64, u64, u64); 7] = [
+        (16, odd, 100, 2),
+        (17, odd, 100, 3),
+        (40, odd, 600, 4),
+        (2000, 1, 2003, 30),
+        (2000, 1, 2047, 13),
+        (70_000, 1, 100_003, 1),
+        (11, odd, 11, 7029),
+    ];
+    for (count, factor, size, pilot) in cases {
+        let mut members = Vec::new(rt.alloc());
+        for i in 0..count {
+            members.push(i.wrapping_mul(factor))?;
+        }
+        let mut occupied = Occupancy::new(rt.alloc(), size)?;
+        let mut scratch = Scratch::with(rt.alloc(), count)?;
+        let found = place_one(1, PILOTS, &members, &mut occupied, &mut scratch);
+        assert_eq!(rt; found, Some(pilot), "{count} members");
+        assert_eq!(rt; occupied.count(), count, "{count} members");
+    }
+    Ok(())
+}
+
+#[test]
+fn equal_members_have_no_pilot(rt: HostRuntime) -> Result<(), Fail> {
+    for count in [2, 16, 17, 2000] {
+        let mut members = Vec::new(rt.alloc());
+        for i in 1..count {
+            members.push(i)?;
+        }
+        members.push(1)?;
+        let mut occupied = Occupancy::new(rt.alloc(), 5003)?;
+        let mut scratch = Scratch::with(rt.alloc(), 2000)?;
+        let found = place_one(1, PILOTS, &members, &mut occupied, &mut scratch);
+        assert_eq!(rt; found, None, "{count} members");
+        assert_eq!(rt; occupied.count(), 0, "{count} members");
+    }
+    Ok(())
+}
+
+#[test]
+fn a_search_goes_on_from_pilots_found_elsewhere(rt: HostRuntime) -> Result<(), Fail> {
+    let records = [record(0, 0), record(2, 1), record(1, 8)];
+    let plan = Plan {
+        seed: SEED_OF_ZERO,
+        size: SIZE,
+        limit: 1,
+        buckets: ordered_buckets(rt.alloc(), &records, Map::Skewed, 7)?,
+    };
+    let mut scratch = Scratch::new(rt.alloc(), &plan)?;
+    if 0 < plan.ranks() {
+        if plan.largest() <= 2 {
+            assert!(rt; spread(&plan, 0, 0, &mut scratch));
+            assert_eq!(rt; scratch.positions(), [0, 1].as_slice());
         }
     }
     Ok(())

@@ -113,7 +113,7 @@ len-one_more s p n bound =
     rw e (elim (contains s p) as (λ b. cond b (len s) (len s + 1) ≤ n + 1) [ true ↦ omega arith | false ↦ omega arith ])
 
 -- a set has at most as many positions as the list that it was made from
-pub len-from_list : (ps : List ℕ) → len (from_list {R = nat_cmp} ps) ≤ length ps
+len-from_list : (ps : List ℕ) → len (from_list {R = nat_cmp} ps) ≤ length ps
 len-from_list [] = omega (arith, len-empty nat_cmp)
 len-from_list (p ∷ ps) = omega (arith, len-one_more (from_list ps) p (length ps) (len-from_list ps))
 

@@ -2,7 +2,8 @@ use Rattle.std.proofs.Common.{sym, ap, ◌∙◌, arith}
 use Rattle.std.specs.Prelude.{nat_lt}
 use Rattle.std.specs.List.{list_all}
 use Rattle.std.specs.FinSet as set
-use Rattle.pthash.specs.Search.{positions_of}
+use Rattle.pthash.specs.Search.{positions_of, pilot_fits}
+use Rattle.pthash.specs.Least.{least_below-found, least_below-none}
 use Rattle.pthash.specs.PositionLaws.{positions_below}
 use Rattle.pilot_search.proofs.Steps.{IsTask, task_pilot, task_positions, placed_more, stuck_here}
 use Rattle.pilot_search.proofs.placing.place_bucket.Goals as goal
@@ -10,7 +11,7 @@ use Rattle.pilot_search.proofs.placing.place_bucket.Goals as goal
 pub take_all-requires : goal.take_all-requires
 take_all-requires c =
     let size = c.requires.divisor ∙ sym c.requires.so_far.size in
-    ap (list_all (λ p. nat_lt p c.args.occupied.now.size)) c.in-Some.ensures.positions
+    ap (list_all (λ p. nat_lt p c.args.occupied.now.size)) (c.positions.ensures ∙ c.in-Some.ensures.positions)
     ∙ ap (λ s. list_all (λ p. nat_lt p s) (positions_of c.seed.result c.args.size.now c.members-members.result.now c.in-Some.pilot)) (sym size)
     ∙ positions_below c.seed.result c.args.size.now c.members-members.result.now c.in-Some.pilot (omega (arith, c.requires.divisor, c.members-members.ensures.searchable.has_position))
 
@@ -20,10 +21,11 @@ returns-in-Some-clause-placed c =
     let task : IsTask c.args.plan.now c.args.rank c.seed.result c.args.size.now c.limit.result c.members-members.result.now =
     record { same_seed = c.seed.ensures.value; same_size = c.requires.divisor; same_limit = c.limit.ensures.value; same_members = c.members-members.ensures.value } in
     placed_more c.args.plan.now c.args.rank c.in-Some.pilot c.args.pilots.now c.args.occupied.now c.take_all.new.self c.requires.rank c.requires.so_far
-    (task_pilot c.args.plan.now c.args.rank c.seed.result c.args.size.now c.limit.result c.members-members.result.now (set.contains taken) task ∙ sym c.in-Some.ensures.pilot)
+    (task_pilot c.args.plan.now c.args.rank c.seed.result c.args.size.now c.limit.result c.members-members.result.now (set.contains taken) task
+    ∙ least_below-found (pilot_fits c.seed.result c.args.size.now (set.contains taken) c.members-members.result.now) c.limit.result c.in-Some.pilot c.in-Some.ensures.pilot)
     c.take_all.ensures.size
     (c.take_all.ensures.taken
-    ∙ ap (λ ps. set.union taken (set.from_list ps)) c.in-Some.ensures.positions
+    ∙ ap (λ ps. set.union taken (set.from_list ps)) (c.positions.ensures ∙ c.in-Some.ensures.positions)
     ∙ ap (λ ps. set.union taken (set.from_list ps)) (task_positions c.args.plan.now c.args.rank c.seed.result c.args.size.now c.limit.result c.members-members.result.now c.in-Some.pilot task))
 
 pub returns-in-None-clause-stuck : goal.returns-in-None-clause-stuck
@@ -33,6 +35,7 @@ returns-in-None-clause-stuck c =
     record { same_seed = c.seed.ensures.value; same_size = c.requires.divisor; same_limit = c.limit.ensures.value; same_members = c.members-members.ensures.value } in
     record {
       found = stuck_here c.args.plan.now c.args.rank c.args.pilots.now c.args.occupied.now c.requires.rank c.requires.so_far
-          (task_pilot c.args.plan.now c.args.rank c.seed.result c.args.size.now c.limit.result c.members-members.result.now (set.contains taken) task ∙ sym c.in-None.ensures.pilot);
+          (task_pilot c.args.plan.now c.args.rank c.seed.result c.args.size.now c.limit.result c.members-members.result.now (set.contains taken) task
+          ∙ least_below-none (pilot_fits c.seed.result c.args.size.now (set.contains taken) c.members-members.result.now) c.limit.result c.in-None.ensures.pilot.fails);
       bucket = c.bucket-bucket.ensures;
     }

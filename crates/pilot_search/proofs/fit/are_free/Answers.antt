@@ -1,16 +1,17 @@
-use Rattle.std.proofs.Common.{◌≡◌, ℕ, ◌<◌, ◌||◌, ◌++◌, ◌∷◌, [], List, true, false, length, take, get_or, sym, ap, ◌∙◌, arith}
-use Rattle.std.specs.Prelude.{bit_xor, ◌%◌}
+use Rattle.std.proofs.Common.{◌≡◌, ℕ, ◌<◌, ◌||◌, ◌++◌, ◌∷◌, [], List, true, false, length, take, get_or, sym, ap, ◌∙◌, subst, arith}
+use Rattle.std.specs.Prelude.{bit_xor, ◌%◌, not}
 use Rattle.std.proofs.Math.Bool.{or-true}
+use Rattle.std.proofs.lemmas.Bool.{not-true}
 use Rattle.std.proofs.lemmas.List.{take_more, take_more_set}
 use Rattle.std.specs.FinSet.{contains}
 use Rattle.pthash.specs.Search.{is_among}
+use Rattle.pilot_search.specs.Marking.{AreMarks}
 use Rattle.pilot_search.specs.Table.{positions_under}
-use Rattle.pilot_search.proofs.Fitting.{fails_at, fits_at, get_or-positions_under, length-positions_under}
-use Rattle.pilot_search.proofs.pilot.is_fit.Goals as goal
-use Rattle.pilot_search.proofs.pilot.is_fit.Goals.{then-contains-via-then-contains, then-contains-via-else-contains+then-contains-2}
+use Rattle.pilot_search.proofs.Fitting.{fails_at, fits_at, free_at, taken_at, known_from_not, get_or-positions_under, length-positions_under}
+use Rattle.pilot_search.proofs.fit.are_free.Goals as goal
 
-pub returns-then-contains-clause-fits : goal.returns-then-contains-clause-fits
-returns-then-contains-clause-fits c =
+pub returns-then-contains-clause-free : goal.returns-then-contains-clause-free
+returns-then-contains-clause-free c =
     let size : ℕ = c.args.occupied.now.size in
     let members : List ℕ = c.args.members.now in
     let i : ℕ = c.loop-i.i in
@@ -21,15 +22,7 @@ returns-then-contains-clause-fits c =
     let here : get_or places i 0 ≡ p =
     get_or-positions_under c.args.hash size members i (omega arith)
     ∙ ap (λ s. bit_xor (get_or members i 0) c.args.hash % s) (sym c.requires.size) ∙ sym c.remainder-position.ensures.value in
-    elim c.then-contains.branch [
-      | then-contains-via-then-contains w ↦
-          let known : taken p ≡ true = sym c.contains.ensures ∙ w.if-contains.true in
-          sym (fails_at taken places i p in_range here (ap (λ b. b || is_among (take i places) p) known))
-      | then-contains-via-else-contains+then-contains-2 w ↦
-          let again : is_among (take i places) p ≡ true =
-          ap (λ ps. is_among ps p) (sym c.loop-i.invariant.places) ∙ sym w.contains-else-contains.ensures.value ∙ w.if-contains-2.true in
-          sym (fails_at taken places i p in_range here (ap (λ b. taken p || b) again ∙ or-true (taken p)))
-    ]
+    sym (taken_at taken places i p in_range here (sym c.contains.ensures ∙ c.if-contains.true))
 
 pub loop-i-preserved : goal.loop-i-preserved
 loop-i-preserved c =
@@ -43,11 +36,8 @@ loop-i-preserved c =
     let here : get_or places i 0 ≡ p =
     get_or-positions_under c.args.hash size members i (omega arith)
     ∙ ap (λ s. bit_xor (get_or members i 0) c.args.hash % s) (sym c.requires.size) ∙ sym c.remainder-position.ensures.value in
-    let free : taken p ≡ false = sym c.contains.ensures ∙ c.if-contains.false in
-    let new : is_among (take i places) p ≡ false =
-    ap (λ ps. is_among ps p) (sym c.loop-i.invariant.places) ∙ sym c.contains-else-contains.ensures.value ∙ c.if-contains-2.false in
     record {
-      fit = fits_at taken places i p in_range here c.loop-i.invariant.fit free new;
+      free = free_at taken places i p in_range here c.loop-i.invariant.free (sym c.contains.ensures ∙ c.if-contains.false);
       places =
           take_more_set c.loop-i.positions i p (omega arith)
           ∙ ap (λ ps. ps ++ p ∷ []) c.loop-i.invariant.places
