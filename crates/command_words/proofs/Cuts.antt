@@ -16,7 +16,10 @@ pub cut_at-split : (c : ℕ) (bs : List ℕ) (r : Option (Bor (List ℕ) × Bor 
     c < 128 → cut_at c bs ≡ option_map parts_of r
 unfolding cut_at
 cut_at-split c bs r split ascii =
-    elim r as (λ r. MatchOption r (position_or_len (λ b. eqb b c) bs ≡ length bs) (λ x. (position_or_len (λ b. eqb b c) bs < length bs) × (x.0.now ≡ before_first (λ b. eqb b c) bs) × (x.1.now ≡ after_first (λ b. eqb b c) bs)) → cond (nat_lt (position_or_len (λ b. eqb b c) bs) (length bs)) (Some (before_first (λ b. eqb b c) bs, after_first (λ b. eqb b c) bs)) None ≡ option_map parts_of r) [
+    elim r as (λ r. MatchOption r (position_or_len (λ b. eqb b c) bs ≡ length bs)
+    (λ x. (position_or_len (λ b. eqb b c) bs < length bs) × (x.0.now ≡ before_first (λ b. eqb b c) bs) ×
+    (x.1.now ≡ after_first (λ b. eqb b c) bs)) → cond (nat_lt (position_or_len (λ b. eqb b c) bs) (length bs)) (Some
+    (before_first (λ b. eqb b c) bs, after_first (λ b. eqb b c) bs)) None ≡ option_map parts_of r) [
       | Some x ↦ λ h. let inside : nat_lt (position_or_len (λ b. eqb b c) bs) (length bs) ≡ true = grind (arith, nat_tests) in
           rw inside (rw (sym h.1, sym h.2) refl)
       | None ↦ λ h. let outside : nat_lt (position_or_len (λ b. eqb b c) bs) (length bs) ≡ false = grind (arith, nat_tests) in

@@ -1,5 +1,6 @@
 -- What the texts of numbers are.
-use Rattle.std.proofs.Common.{◌≡◌, ◌≢◌, ℕ, ◌^◌, ◌<◌, ◌≤◌, List, length, get_or, true, false, cond, ◌&&◌, Option, Some, None, Result, Ok, Err, refl, sym, ap, subst, ◌∙◌, arith}
+use Rattle.std.proofs.Common.{◌≡◌, ◌≢◌, ℕ, ◌^◌, ◌<◌, ◌≤◌, List, length, get_or, true, false, cond, ◌&&◌, Option, Some, None, Result}
+use Rattle.std.proofs.Common.{Ok, Err, refl, sym, ap, subst, ◌∙◌, arith}
 use Rattle.std.specs.Prelude.{IfSome, decimal, bytes_eq, nat_lt}
 use Rattle.std.specs.Result.{OkIff, result_ok}
 use Rattle.std.specs.Str.Parse.{AllDigits, digits_value, ParsesUnsigned}
@@ -26,13 +27,16 @@ number_of-decimal n small =
 pub number_of-some : (bs : List ℕ) (n : ℕ) → number_of bs ≡ Some n → (bs ≡ decimal n) × (n < 2 ^ 64)
 unfolding number_of
 number_of-some bs n e =
-    elim (nat_lt (digits_value 10 bs) (2 ^ 64)) as (λ b. nat_lt (digits_value 10 bs) (2 ^ 64) ≡ b → cond (b && bytes_eq bs (decimal (digits_value 10 bs))) (Some (digits_value 10 bs)) None ≡ Some n → (bs ≡ decimal n) × (n < 2 ^ 64)) [
-      | true ↦ λ small. elim (bytes_eq bs (decimal (digits_value 10 bs))) as (λ b. bytes_eq bs (decimal (digits_value 10 bs)) ≡ b → cond b (Some (digits_value 10 bs)) None ≡ Some n → (bs ≡ decimal n) × (n < 2 ^ 64)) [
-        | true ↦ λ same is. let spelled = (bytes_eq-Decides bs (decimal (digits_value 10 bs))).0 same in
-            let value : digits_value 10 bs ≡ n = cc in
-            (subst (λ k. bs ≡ decimal k) value spelled, grind (arith, nat_tests))
-        | false ↦ λ same is. cc
-      ] refl
+    elim (nat_lt (digits_value 10 bs) (2 ^ 64)) as (λ b. nat_lt (digits_value 10 bs) (2 ^ 64) ≡ b →
+    cond (b && bytes_eq bs (decimal (digits_value 10 bs))) (Some (digits_value 10 bs)) None ≡ Some n → (bs ≡ decimal n) × (n < 2 ^ 64)) [
+      | true ↦ λ small. elim (bytes_eq bs (decimal (digits_value 10 bs))) as
+          (λ b. bytes_eq bs (decimal (digits_value 10 bs)) ≡ b → cond b (Some (digits_value 10 bs)) None ≡ Some n →
+          (bs ≡ decimal n) × (n < 2 ^ 64)) [
+            | true ↦ λ same is. let spelled = (bytes_eq-Decides bs (decimal (digits_value 10 bs))).0 same in
+                let value : digits_value 10 bs ≡ n = cc in
+                (subst (λ k. bs ≡ decimal k) value spelled, grind (arith, nat_tests))
+            | false ↦ λ same is. cc
+          ] refl
       | false ↦ λ large is. cc
     ] refl e
 

@@ -1,5 +1,6 @@
 -- What words give is in its range.
-use Rattle.std.proofs.Common.{◌≡◌, ℕ, suc, ◌+◌, ◌≤◌, List, [], ◌∷◌, length, true, false, cond, ◌&&◌, Option, Some, None, Result, Ok, Err, refl, sym, ap, subst, ◌∙◌, arith}
+use Rattle.std.proofs.Common.{◌≡◌, ℕ, suc, ◌+◌, ◌≤◌, List, [], ◌∷◌, length, true, false, cond, ◌&&◌, Option, Some, None, Result, Ok}
+use Rattle.std.proofs.Common.{Err, refl, sym, ap, subst, ◌∙◌, arith}
 use Rattle.std.specs.Prelude.{◌==◌, nat_le, option_map, option_and_then, unwrap_or}
 use Rattle.std.specs.List.{slice_split}
 use Rattle.std.proofs.lemmas.Bool.Decides.{nat_tests}
@@ -10,8 +11,8 @@ use Rattle.settings.specs.Workers.{workers_of}
 use Rattle.command_words.specs.declared.kinds.TheConstants.{RANGE}
 use Rattle.command_words.specs.declared.number.TheConstants.{COMMA}
 use Rattle.command_words.specs.declared.chosen.TheConstants.{EQUALS, DEFAULT_SEARCH}
-use Rattle.command_words.specs.declared.setting.Setting.{Setting}
-use Rattle.command_words.specs.declared.setting.Setting.TheVariants as setting
+use Rattle.command_words.specs.declared.chosen.Setting.{Setting}
+use Rattle.command_words.specs.declared.chosen.Setting.TheVariants as setting
 use Rattle.command_words.specs.declared.values.Search as search
 use Rattle.command_words.specs.declared.values.Search.TheVariants.{Turns, Rounds}
 use Rattle.command_words.specs.Options.{IsInRange}
@@ -61,7 +62,8 @@ few_seeds-ok : (r : Option (List ℕ)) (seeds : List ℕ) → few_seeds r ≡ Ok
     (r ≡ Some seeds) × (length seeds ≤ limits.MAX_SEEDS)
 few_seeds-ok None seeds is = cc
 few_seeds-ok (Some ns) seeds is =
-    elim (nat_le (length ns) limits.MAX_SEEDS) as (λ b. nat_le (length ns) limits.MAX_SEEDS ≡ b → cond b (Ok ns) (Err RANGE) ≡ Ok seeds → (Some ns ≡ Some seeds) × (length seeds ≤ limits.MAX_SEEDS)) [
+    elim (nat_le (length ns) limits.MAX_SEEDS) as (λ b. nat_le (length ns) limits.MAX_SEEDS ≡ b →
+    cond b (Ok ns) (Err RANGE) ≡ Ok seeds → (Some ns ≡ Some seeds) × (length seeds ≤ limits.MAX_SEEDS)) [
       | true ↦ λ few e. let same : ns ≡ seeds = cc in (ap Some same, subst (λ s. length s ≤ limits.MAX_SEEDS) same (grind (arith, nat_tests)))
       | false ↦ λ few e. cc
     ] refl is
@@ -158,7 +160,8 @@ unfolding given_by
 given_by-in_range [] first g last h is =
     let same : g ≡ last = cc in subst (λ g. IsInRange (options_of g)) same h
 given_by-in_range (word ∷ words) first g last h is =
-    elim (with_word word g) as (λ r. with_word word g ≡ r → after_word first r (λ next. given_by words (first + 1) next) ≡ Ok last → IsInRange (options_of last)) [
+    elim (with_word word g) as (λ r. with_word word g ≡ r →
+    after_word first r (λ next. given_by words (first + 1) next) ≡ Ok last → IsInRange (options_of last)) [
       | Ok next ↦ λ good e. given_by-in_range words (first + 1) next last (with_word-in_range word g next h good) e
       | Err kind ↦ λ bad e. cc
     ] refl is

@@ -6,7 +6,7 @@ use Rattle.std.proofs.lemmas.List.{at_drop_more, at_drop_all}
 use Rattle.command_words.specs.declared.kinds.TheConstants.{NAME}
 use Rattle.command_words.specs.declared.chosen.TheConstants.{EQUALS}
 use Rattle.command_words.specs.declared.faults.WordFault.{WordFault}
-use Rattle.command_words.specs.declared.setting.Setting.{Setting}
+use Rattle.command_words.specs.declared.chosen.Setting.{Setting}
 use Rattle.command_words.specs.declared.faults.Refusal.{Refusal}
 use Rattle.command_words.specs.declared.faults.Refusal.TheVariants.{Kind}
 use Rattle.command_words.specs.Options.{words_of}
@@ -50,7 +50,10 @@ given_by-faulty word words place kind g is =
     ap (λ r. after_word place r (λ next. given_by words (place + 1) next)) is
 
 -- the loop goes on after a good word
-pub given_by-next : (words : List (String Global)) (k first : ℕ) (word : String Global) (g next : Given) (all : Result Given WordFault) → k < length words → word ≡ get_or words k word → with_word (string_bytes word) g ≡ Ok next → given_by (words_of (drop k words)) (first + k) g ≡ all → given_by (words_of (drop (k + 1) words)) (first + (k + 1)) next ≡ all
+pub given_by-next : (words : List (String Global)) (k first : ℕ) (word : String Global) (g next : Given)
+    (all : Result Given WordFault) → k < length words → word ≡ get_or words k word →
+    with_word (string_bytes word) g ≡ Ok next → given_by (words_of (drop k words)) (first + k) g ≡ all →
+    given_by (words_of (drop (k + 1) words)) (first + (k + 1)) next ≡ all
 given_by-next words k first word g next all inside at good so_far =
     let place : first + (k + 1) ≡ first + k + 1 = omega arith in
     ap (λ p. given_by (words_of (drop (k + 1) words)) p next) place
@@ -60,7 +63,10 @@ given_by-next words k first word g next all inside at good so_far =
     ∙ so_far
 
 -- the loop ends at a faulty word
-pub given_by-stop : (words : List (String Global)) (k first kind : ℕ) (word : String Global) (g : Given) (all : Result Given WordFault) → k < length words → word ≡ get_or words k word → with_word (string_bytes word) g ≡ Err kind → given_by (words_of (drop k words)) (first + k) g ≡ all → all ≡ Err (fault_at (first + k) kind)
+pub given_by-stop : (words : List (String Global)) (k first kind : ℕ) (word : String Global) (g : Given)
+    (all : Result Given WordFault) → k < length words → word ≡ get_or words k word →
+    with_word (string_bytes word) g ≡ Err kind → given_by (words_of (drop k words)) (first + k) g ≡ all →
+    all ≡ Err (fault_at (first + k) kind)
 given_by-stop words k first kind word g all inside at bad so_far =
     sym so_far
     ∙ at_drop_more (λ ws. given_by (words_of ws) (first + k) g) words k word inside

@@ -9,8 +9,8 @@ use Rattle.settings.specs.declared.settings.TheConstants as limits
 use Rattle.command_words.specs.declared.kinds.TheConstants.{NAME, REPEATED}
 use Rattle.command_words.specs.declared.chosen.TheConstants.{EQUALS, DEFAULT_SEARCH}
 use Rattle.command_words.specs.declared.chosen.Chosen.{Chosen}
-use Rattle.command_words.specs.declared.setting.Setting.{Setting}
-use Rattle.command_words.specs.declared.setting.Setting.TheVariants as setting
+use Rattle.command_words.specs.declared.chosen.Setting.{Setting}
+use Rattle.command_words.specs.declared.chosen.Setting.TheVariants as setting
 use Rattle.command_words.specs.declared.values.Search as search
 use Rattle.command_words.specs.declared.values.Search.TheVariants.{Turns, Rounds}
 use Rattle.command_words.specs.Options.{OptionsData}

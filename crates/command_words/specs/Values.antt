@@ -1,5 +1,6 @@
 -- What the values of settings stand for.
-use Rattle.std.specs.Prelude.{◌≡◌, ◌<◌, ◌≤◌, slice_index, ◌==◌, ℕ, ◌^◌, ◌&&◌, List, [], ◌∷◌, length, codes, bytes_eq, decimal, nat_le, nat_lt, if◌then◌else◌, Option, Some, None, Result, Ok, Err, ok_or, option_map, option_and_then}
+use Rattle.std.specs.Prelude.{◌≡◌, ◌<◌, ◌≤◌, slice_index, ◌==◌, ℕ, ◌^◌, ◌&&◌, List, [], ◌∷◌, length, codes, bytes_eq, decimal, nat_le}
+use Rattle.std.specs.Prelude.{nat_lt, if◌then◌else◌, Option, Some, None, Result, Ok, Err, ok_or, option_map, option_and_then}
 use Rattle.std.specs.List.{slice_split, before_first, after_first, position_or_len}
 use Rattle.std.specs.Str.Parse.{digits_value}
 use Rattle.pthash.specs.declared.Map.{Map}

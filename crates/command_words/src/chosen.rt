@@ -2,13 +2,12 @@
 ghost use Rattle.std.specs.Prelude.{◌≡◌, IfOk, IfErr, IsOk, IsNone, IsSome, Some, Err, option_map, unwrap_or, vec_items};
 ghost use Rattle.command_words.specs.Options.{options_data, IsInRange};
 ghost use Rattle.command_words.specs.Refusals.{Answers};
-ghost use Rattle.command_words.specs.Settings.{chosen_values, nothing_given, with_value, with_word, options_of, how_of};
+ghost use Rattle.command_words.specs.Settings.{setting_of, chosen_values, nothing_given, with_value, with_word, options_of, how_of};
 
 use crate::faults::Refusal;
 use crate::kinds::{NAME, REPEATED};
 use crate::number::{read_number, read_seeds, read_small};
 use crate::options::Options;
-use crate::setting::{Setting, setting_named};
 use crate::values::{Search, read_encoding, read_map, read_search};
 use settings::{
     DEFAULT_ALPHA, DEFAULT_BLOCKS, DEFAULT_C, DEFAULT_ENCODING, DEFAULT_MAP, DEFAULT_PARTITIONS,
@@ -22,6 +21,42 @@ const EQUALS: char = '=';
 
 // Who leads a search where no word says it.
 pub const DEFAULT_SEARCH: Search = Search::Turns;
+
+// A setting.
+#[derive(Clone, Copy, Debug, PartialEq, Eq)]
+pub enum Setting {
+    Seeds,
+    Alpha,
+    C,
+    Map,
+    Parts,
+    Workers,
+    Search,
+    Enc,
+    Pilots,
+    Blocks,
+    Limit,
+}
+
+// The setting of this name.
+pub fn setting_named(name: &str) -> Option<Setting>
+    ensures { result ≡ setting_of name.now }
+{
+    match name {
+        "seeds" => Some(Setting::Seeds),
+        "alpha" => Some(Setting::Alpha),
+        "c" => Some(Setting::C),
+        "map" => Some(Setting::Map),
+        "parts" => Some(Setting::Parts),
+        "workers" => Some(Setting::Workers),
+        "search" => Some(Setting::Search),
+        "enc" => Some(Setting::Enc),
+        "pilots" => Some(Setting::Pilots),
+        "blocks" => Some(Setting::Blocks),
+        "limit" => Some(Setting::Limit),
+        _ => None,
+    }
+}
 
 // The values of the settings that words give.
 #[derive(Drop)]

@@ -1,3 +1,5 @@
+// The kinds of faults in words.
+
 /// The first word is no command.
 pub const COMMAND: u8 = 1;
 

@@ -7,7 +7,6 @@ mod faults;
 pub mod kinds;
 mod number;
 mod options;
-mod setting;
 #[cfg(test)]
 mod tests;
 mod values;

@@ -1,5 +1,6 @@
+// What no clause says: that memory is enough, over words of an independent program.
 use crate::kinds::{COMMAND, MISSING, NAME, NUMBER, RANGE, REPEATED};
-use crate::{Code, Command, How, WordFault, WordsErr, read_words};
+use crate::{Code, Command, How, Map, WordFault, WordsErr, read_words};
 use std::alloc::{AllocError, Global};
 use std::test::Fail;
 
@@ -13,7 +14,7 @@ fn read_line(alloc: Global, line: &str) -> Result<Result<Command, WordsErr>, All
 }
 
 // Each faulty line, with the number of its first faulty word and the kind of the fault.
-const FAULTY: [(&str, u64, u8); 47] = [
+const FAULTY: [(&str, u64, u8); 57] = [
     ("", 0, MISSING),
     ("pilots", 1, MISSING),
     ("pilots K x", 2, NAME),
@@ -32,6 +33,16 @@ const FAULTY: [(&str, u64, u8); 47] = [
     ("pilots K alpha=98=1", 2, NUMBER),
     ("pilots K c=99", 2, RANGE),
     ("pilots K c=1501", 2, RANGE),
+    ("pilots K map=flat", 2, RANGE),
+    ("pilots K map=", 2, RANGE),
+    ("pilots K map", 2, NAME),
+    ("pilots K map=Uniform", 2, RANGE),
+    ("pilots K map=uniform map=uniform", 3, REPEATED),
+    ("pilots K map=uniform map=flat", 3, REPEATED),
+    ("pilots K alpha=x map=flat", 2, NUMBER),
+    ("pilots K map=flat alpha=x", 2, RANGE),
+    ("pilots K map=skewed,uniform", 2, RANGE),
+    ("pilots K maps=uniform", 2, NAME),
     ("pilots K parts=0", 2, RANGE),
     ("pilots K parts=4097", 2, RANGE),
     ("pilots K workers=0", 2, RANGE),
@@ -99,6 +110,7 @@ fn settings_that_no_word_gives_are_as_by_default(rt: HostRuntime) -> Result<(), 
         (options.settings.shape.alpha, options.settings.shape.c),
         (98, 700)
     );
+    assert_eq!(&rt; options.settings.shape.map, Map::Skewed);
     assert_eq!(&rt;
         (options.settings.parts, options.settings.limit),
         (1, 16_777_216)
@@ -115,7 +127,7 @@ fn settings_that_no_word_gives_are_as_by_default(rt: HostRuntime) -> Result<(), 
 #[test]
 fn settings_are_as_words_give_them(rt: HostRuntime) -> Result<(), Fail> {
     let line = "pilots K limit=1 blocks=65536 pilots=4294967295 enc=pc-ef search=rounds workers=64 \
-        parts=4096 c=1500 alpha=50 seeds=0,18446744073709551615";
+        parts=4096 map=uniform c=1500 alpha=50 seeds=0,18446744073709551615";
     let Ok(Command::Pilots { options, .. }) = read_line(rt.alloc(), line)? else {
         return Err(Fail::from("a good line is refused"));
     };
@@ -124,6 +136,7 @@ fn settings_are_as_words_give_them(rt: HostRuntime) -> Result<(), Fail> {
         (options.settings.shape.alpha, options.settings.shape.c),
         (50, 1500)
     );
+    assert_eq!(&rt; options.settings.shape.map, Map::Uniform);
     assert_eq!(&rt;
         (options.settings.parts, options.settings.limit),
         (4096, 4_294_967_295)

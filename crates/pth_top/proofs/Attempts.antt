@@ -16,11 +16,13 @@ use Rattle.pth_top.specs.Shown.{shown_attempt}
 length-numbers : (m : ℕ) → length (numbers_below m) ≡ m
 length-numbers m = length-numbers_below m
 
+-- there are as many partitions as were asked for
 pub length-partitions : (records : List Record) (parts : ℕ) → length (partitions_of records parts) ≡ parts
 unfolding partitions_of
 length-partitions records parts =
     length-map (numbers_below parts) (λ part. filter (λ r. partition_of r.a r.b parts == part) records) ∙ length-numbers parts
 
+-- what passes a test is no longer than the list
 length-filter-le : (test : Record → Bool) (records : List Record) → length (filter test records) ≤ length records
 length-filter-le test [] = omega arith
 length-filter-le test (r ∷ records) =

@@ -1,5 +1,6 @@
 -- What the answers of `pilots` give, in the words of its definition.
-use Rattle.std.proofs.Common.{◌≡◌, ℕ, ◌+◌, ◌≤◌, false, true, List, [], ◌∷◌, ◌++◌, length, map, take, Option, Some, None, IfSome, option_map, refl, sym, ap, ◌∙◌, arith}
+use Rattle.std.proofs.Common.{◌≡◌, ℕ, ◌+◌, ◌≤◌, false, true, List, [], ◌∷◌, ◌++◌, length, map, take, Option, Some, None, IfSome, option_map}
+use Rattle.std.proofs.Common.{refl, sym, ap, ◌∙◌, arith}
 use Rattle.std.specs.Prelude.{IsSomeAnd, nat_lt, cond}
 use Rattle.std.specs.FinMap as fin
 use Rattle.std.proofs.lemmas.Bool.{lt-ltb, le-ltb}
@@ -74,7 +75,8 @@ gives None new found answer is same = tt
 gives (Some m) new found answer is same = gives_of (found m) answer (Some m) new is same
 
 -- a file that has one of these outcomes gives this
-over_file : (told : Option FileMap) (name : List ℕ) (o : OptionsData) (d : Done) (P : List ℕ → Type 0) → ((bytes : List ℕ) → P bytes → pilots_result o bytes ≡ d) →
+over_file : (told : Option FileMap) (name : List ℕ) (o : OptionsData) (d : Done) (P : List ℕ → Type 0) →
+    ((bytes : List ℕ) → P bytes → pilots_result o bytes ≡ d) →
     OfFile told name P → IfSome told (λ m. option_map (pilots_result o) (fin.get m name) ≡ Some d)
 over_file None name o d P gives of = tt
 over_file (Some m) name o d P gives of = found (fin.get m name) (of refl)
@@ -84,7 +86,8 @@ over_file (Some m) name o d P gives of = found (fin.get m name) (of refl)
     found (Some bytes) is = ap Some (gives bytes is)
 
 -- a file that is read
-pub done_over_keys : (told : Option FileMap) (name : List ℕ) (o : OptionsData) (keys : List (List ℕ)) (d : Done) → OfFile told name (λ bytes. keys ≡ keys_of bytes) →
+pub done_over_keys : (told : Option FileMap) (name : List ℕ) (o : OptionsData) (keys : List (List ℕ)) (d : Done) →
+    OfFile told name (λ bytes. keys ≡ keys_of bytes) →
     length keys ≤ o.most → first_too_long keys ≡ None → d ≡ keys_result o keys → IfSome told (λ m. option_map (pilots_result o) (fin.get m name) ≡ Some d)
 unfolding pilots_result
 done_over_keys told name o keys d of few short is =

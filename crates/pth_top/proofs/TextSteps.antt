@@ -31,7 +31,8 @@ cause_lines_all (s ∷ seeds) (c ∷ causes) (suc n) is = ap (λ (more : List �
 
 -- the lines of partitions, one behind the others
 pub parts_lines_push : (alpha number : ℕ) (parts : List PartData) (part : PartData) →
-    parts_lines alpha number (parts ++ part ∷ []) ≡ parts_lines alpha number parts ++ part_lines (number + length parts) part.n (table_size_of part.n alpha) part.pilots
+    parts_lines alpha number (parts ++ part ∷ []) ≡ parts_lines alpha number parts ++ part_lines (number + length parts)
+    part.n (table_size_of part.n alpha) part.pilots
 parts_lines_push alpha number [] part =
     let same : number ≡ number + 0 = omega arith in
     append-nil (part_lines number part.n (table_size_of part.n alpha) part.pilots)
@@ -45,7 +46,8 @@ parts_lines_push alpha number (p ∷ parts) part =
     (part_lines (number + suc (length parts)) part.n (table_size_of part.n alpha) part.pilots))
 
 -- the text of partitions, one more
-pub parts_text_more : (alpha n size : ℕ) (parts : List Partition) (part : Partition) (start old new pilots : List ℕ) → n < length parts → part ≡ get_or parts n part →
+pub parts_text_more : (alpha n size : ℕ) (parts : List Partition) (part : Partition) (start old new pilots : List ℕ) →
+    n < length parts → part ≡ get_or parts n part →
     size ≡ table_size_of part.n alpha → pilots ≡ part.pilots.items →
     old ≡ start ++ parts_lines alpha 0 (map part_data (take n parts)) → new ≡ old ++ part_lines n part.n size pilots →
     new ≡ start ++ parts_lines alpha 0 (map part_data (take (n + 1) parts))
@@ -54,7 +56,8 @@ parts_text_more alpha n size parts part start old new pilots within is room are 
     let count : 0 + length front ≡ n = omega (arith, length-map (take n parts) part_data, length-take-le n parts (omega arith)) in
     let last : get_or parts n part ≡ part = sym is in
     let grown : map part_data (take (n + 1) parts) ≡ front ++ part_data part ∷ [] =
-    ap (map part_data) (take_more parts n part within ∙ ap (λ (p : Partition). take n parts ++ p ∷ []) last) ∙ map-append part_data (take n parts) (part ∷ []) in
+    ap (map part_data) (take_more parts n part within ∙ ap (λ (p : Partition). take n parts ++ p ∷ []) last)
+    ∙ map-append part_data (take n parts) (part ∷ []) in
     pushed
     ∙ ap (λ (text : List ℕ). text ++ part_lines n part.n size pilots) so_far
     ∙ append_assoc start (parts_lines alpha 0 front) (part_lines n part.n size pilots)

@@ -12,12 +12,14 @@ returns-in_err-front-in-None c =
 pub returns-in_err-front-in-Some : goal.returns-in_err-front-in-Some
 returns-in_err-front-in-Some c =
     let cut = one_cut 45 c.args.text.now c.split_once.result c.split_once.ensures.cases (lit< tt) c.in-Some.front c.in-Some.back c.in-Some.is in
-    c.from_residual-in_err-front-in-Some.ensures ∙ encoding_of-parts c.args.text.now _ _ _ None (code_of c.in-Some.back.now) cut c.in_err-front-in-Some.ensures refl
+    c.from_residual-in_err-front-in-Some.ensures ∙ encoding_of-parts c.args.text.now _ _ _ None (code_of c.in-Some.back.now)
+    cut c.in_err-front-in-Some.ensures refl
 
 pub returns-in_err-code_named-in-Some : goal.returns-in_err-code_named-in-Some
 returns-in_err-code_named-in-Some c =
     let cut = one_cut 45 c.args.text.now c.split_once.result c.split_once.ensures.cases (lit< tt) c.in-Some.front c.in-Some.back c.in-Some.is in
-    c.from_residual-in_err-code_named-in-Some.ensures ∙ encoding_of-parts c.args.text.now _ _ _ (Some c.in_ok-front-in-Some.front) None cut c.in_ok-front-in-Some.ensures c.in_err-code_named-in-Some.ensures
+    c.from_residual-in_err-code_named-in-Some.ensures ∙ encoding_of-parts c.args.text.now _ _ _
+    (Some c.in_ok-front-in-Some.front) None cut c.in_ok-front-in-Some.ensures c.in_err-code_named-in-Some.ensures
 
 pub returns-in_ok-front-in-None : goal.returns-in_ok-front-in-None
 returns-in_ok-front-in-None c =
@@ -27,4 +29,5 @@ returns-in_ok-front-in-None c =
 pub returns-in_ok-code_named-in-Some : goal.returns-in_ok-code_named-in-Some
 returns-in_ok-code_named-in-Some c =
     let cut = one_cut 45 c.args.text.now c.split_once.result c.split_once.ensures.cases (lit< tt) c.in-Some.front c.in-Some.back c.in-Some.is in
-    encoding_of-parts c.args.text.now _ _ _ (Some c.in_ok-front-in-Some.front) (Some c.in_ok-code_named-in-Some.field-0) cut c.in_ok-front-in-Some.ensures c.in_ok-code_named-in-Some.ensures
+    encoding_of-parts c.args.text.now _ _ _ (Some c.in_ok-front-in-Some.front) (Some c.in_ok-code_named-in-Some.field-0) cut
+    c.in_ok-front-in-Some.ensures c.in_ok-code_named-in-Some.ensures

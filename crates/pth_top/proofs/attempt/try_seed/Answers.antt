@@ -36,10 +36,13 @@ pub returns : goal.returns
 returns c =
     let seen = c.deref.ensures.value ∙ c.in_ok-records.ensures in
     IfOk-weaker c.build_partitions.result
-    (λ (t : Attempt). attempt_data t ≡ shown_attempt (by_parts (parts_from (rules_of (settings_data c.args.settings.now)) c.args.seed 0 c.in_ok-partitions-in-None.partitions)))
+    (λ (t : Attempt). attempt_data t ≡ shown_attempt (by_parts
+    (parts_from (rules_of (settings_data c.args.settings.now)) c.args.seed 0 c.in_ok-partitions-in-None.partitions)))
     (λ (t : Attempt). attempt_data t ≡ shown_attempt (attempt_of (rules_of (settings_data c.args.settings.now)) c.args.keys.now c.args.seed))
-    (λ t ends. parted_attempt (rules_of (settings_data c.args.settings.now)) c.args.keys.now c.args.seed c.in_ok-first.field-0 c.in_ok-partitions-in-None.partitions (attempt_data t)
+    (λ t ends. parted_attempt (rules_of (settings_data c.args.settings.now)) c.args.keys.now c.args.seed
+    c.in_ok-first.field-0 c.in_ok-partitions-in-None.partitions (attempt_data t)
     (clash_of_seen c.args.keys.now c.args.seed c.deref.result.now c.in_ok-first.field-0 seen c.in_ok-first.ensures.none c.in_ok-first.ensures.least)
     c.in-None.is
-    (c.in_ok-partitions-in-None.ensures ∙ ap (λ (rs : List Record). partitions_of rs c.args.settings.now.parts) (c.deref-in-None.ensures.value ∙ c.in_ok-records.ensures)) ends)
+    (c.in_ok-partitions-in-None.ensures ∙ ap (λ (rs : List Record). partitions_of rs c.args.settings.now.parts)
+    (c.deref-in-None.ensures.value ∙ c.in_ok-records.ensures)) ends)
     c.build_partitions.ensures
