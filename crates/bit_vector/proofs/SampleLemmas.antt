@@ -15,7 +15,8 @@ use Rattle.bit_vector.specs.Bits.{number_of, words_number, words_from, words_for
 use Rattle.bit_vector.specs.Samples.{all_ones, IsOneAt}
 use Rattle.std.proofs.lemmas.List.{take_all}
 use Rattle.bit_vector.proofs.PackLemmas.{below_from_div}
-use Rattle.bit_vector.proofs.BitLemmas.{half-mod, take-bits_of, bits_of-number_of, number_of-lt, ones-bits_of, get_or-bits_of, length-places_from, slice_get-places_from}
+use Rattle.bit_vector.proofs.BitLemmas.{half-mod, take-bits_of, bits_of-number_of, number_of-lt, ones-bits_of, get_or-bits_of, length-places_from}
+use Rattle.bit_vector.proofs.BitLemmas.{slice_get-places_from}
 use Rattle.bit_vector.proofs.WordLemmas.{AreWords, words_number-take, count_ones-words}
 use Rattle.bit_vector.proofs.ReadLemmas.{words_number-at, mod-add-multiple, bits_inside}
 

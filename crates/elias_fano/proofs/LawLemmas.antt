@@ -1,5 +1,6 @@
 -- What is read is what is spelled, and what is spelled is read again, whatever follows.
-use Rattle.std.proofs.Common.{◌≡◌, ℕ, zero, suc, ◌+◌, ◌*◌, ◌-◌, ◌/◌, ◌^◌, ◌<◌, ◌≤◌, Bool, true, false, cond, eqb, ltb, List, [], ◌∷◌, ◌++◌, length, get_or, take}
+use Rattle.std.proofs.Common.{◌≡◌, ℕ, zero, suc, ◌+◌, ◌*◌, ◌-◌, ◌/◌, ◌^◌, ◌<◌, ◌≤◌, Bool, true, false, cond, eqb, ltb, List, [], ◌∷◌, ◌++◌, length, get_or}
+use Rattle.std.proofs.Common.{take}
 use Rattle.std.proofs.Common.{drop, Result, Ok, Err, refl, sym, ap, ◌∙◌, subst, append_assoc, inl, inr, arith}
 use Rattle.std.specs.Prelude.{not, ◌&&◌, ◌⊎◌}
 use Rattle.std.specs.List.{flat_map}
@@ -308,7 +309,8 @@ length-ef_text vs r =
     ] in
     let lows : length low ≤ count * 63 = omega (arith, length-bits_of_each w vs, mul-le count w count 63 (omega arith) (low_width-le count last)) in
     let highs = length-marks 0 (high_len count last w) (high_places w 0 vs) in
-    let all : length (ef_text vs) ≡ 8 + length (run low) + length (run high) = omega (arith, length-append (number last ++ run low) (run high), length-append (number last) (run low)) in
+    let all : length (ef_text vs) ≡ 8 + length (run low) + length (run high) =
+    omega (arith, length-append (number last ++ run low) (run high), length-append (number last) (run low)) in
     omega (arith, all, length-run low, length-run high, lows, highs, few)
 
 -- a list that stands between others is spelled there

@@ -59,7 +59,8 @@ below-front bound xs ys lt =
 pub below-back : (bound : ℕ) (xs ys : List ℕ) → length xs ≤ below_len bound xs → below_len bound (xs ++ ys) ≡ length xs + below_len bound ys
 below-back bound xs ys le =
     prefix_len-append (λ (v : ℕ). ltb v bound) xs ys
-    ∙ ap (λ (b : Bool). cond b (length xs + below_len bound ys) (below_len bound xs)) (eq-eqb (below_len bound xs) (length xs) (omega (arith, below_len-most bound xs)))
+    ∙ ap (λ (b : Bool). cond b (length xs + below_len bound ys) (below_len bound xs))
+    (eq-eqb (below_len bound xs) (length xs) (omega (arith, below_len-most bound xs)))
 
 -- a value by its index is an entry
 pub looked_up-at : (ds places : List ℕ) (i : ℕ) → i < length places → i < length (looked_up ds places) →

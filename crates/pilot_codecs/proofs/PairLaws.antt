@@ -12,7 +12,8 @@ use Rattle.elias_fano.proofs.CallerLemmas.{length-numbers, length-run, length-ef
 use Rattle.pilot_codecs.specs.declared.code.Code.{Code}
 use Rattle.pilot_codecs.specs.declared.code.Code.TheVariants as codes
 use Rattle.pilot_codecs.specs.declared.code.Encoding.{Encoding}
-use Rattle.pilot_codecs.specs.Spelling.{digits_of, greatest, groups_of, groups_for, compact_text, parted_text, distinct, index_in, dict_text, sums_from, code_text, split_text}
+use Rattle.pilot_codecs.specs.Spelling.{digits_of, greatest, groups_of, groups_for, compact_text, parted_text, distinct, index_in, dict_text, sums_from}
+use Rattle.pilot_codecs.specs.Spelling.{code_text, split_text}
 use Rattle.pilot_codecs.specs.Spelling.{pair_text, Fits}
 use Rattle.pilot_codecs.specs.Encoded.{FitSplit, IsSpelled}
 use Rattle.pilot_codecs.proofs.FieldLemmas.{digits_of-le}
@@ -60,7 +61,8 @@ unfolding compact_text
 length-compact_text vs =
     let d = digits_of (greatest vs) in
     let bits = bits_of_each d vs in
-    let most : length bits ≤ length vs * 64 = omega (arith, length-bits_of_each d vs, mul-le (length vs) d (length vs) 64 (omega arith) (digits_of-le (greatest vs))) in
+    let most : length bits ≤ length vs * 64 =
+    omega (arith, length-bits_of_each d vs, mul-le (length vs) d (length vs) 64 (omega arith) (digits_of-le (greatest vs))) in
     omega (arith, length-append (number d) (run bits), length-run bits, most)
 
 -- the same of groups, 16 more for each

@@ -8,7 +8,10 @@ use Rattle.bit_vector.proofs.SampleLemmas.{one_above, one_within, one_among, one
 use Rattle.bit_vector.proofs.samples.next_one.Goals as goal
 
 pub returns-then-first-words : goal.returns-then-first-words
-returns-then-first-words c = omega (arith, ones_all c.args.words.now c.args.from (λ i. omega (arith, c.type_inv.words i)) c.requires.within c.if-first-words.true)
+returns-then-first-words c = omega (
+  arith,
+  ones_all c.args.words.now c.args.from (λ i. omega (arith, c.type_inv.words i)) c.requires.within c.if-first-words.true,
+)
 
 pub returns-then-rest-ne0 : goal.returns-then-rest-ne0
 returns-then-rest-ne0 c =

@@ -17,7 +17,8 @@ loop-first-init c =
 
 pub unwrap-value-requires : goal.unwrap-value-requires
 unwrap-value-requires c =
-    let lt : c.loop-first.first + (c.loop-first.end - c.loop-first.first) / 2 < length c.args.list.now = omega (arith, c.loop-first.invariant.within, c.loop-first-test.true) in
+    let lt : c.loop-first.first + (c.loop-first.end - c.loop-first.first) / 2 < length c.args.list.now =
+    omega (arith, c.loop-first.invariant.within, c.loop-first-test.true) in
     rw c.get.ensures (slice_get-some c.args.list.now (c.loop-first.first + (c.loop-first.end - c.loop-first.first) / 2) lt)
 
 pub loop-first-preserved-then-value-bound : goal.loop-first-preserved-then-value-bound

@@ -24,15 +24,18 @@ unwrap-place-requires c =
     rw c.next1.ensures (subst (λ (k : ℕ). IsSome (slice_get (places c.args.high.now) k)) (sym c.loop-i.invariant.passed) there)
 
 pub part_of-here-requires-clause-wide : goal.part_of-here-requires-clause-wide
-part_of-here-requires-clause-wide c = (part_is c.args.count c.args.last c.args.width c.args.low.now c.args.high.now c.loop-i.i c.unwrap-place.result c.requires c.loop-i-test.true
+part_of-here-requires-clause-wide c =
+    (part_is c.args.count c.args.last c.args.width c.args.low.now c.args.high.now c.loop-i.i c.unwrap-place.result c.requires c.loop-i-test.true
     (ap (λ (k : ℕ). slice_get (places c.args.high.now) k) (sym c.loop-i.invariant.passed) ∙ sym c.next1.ensures ∙ c.unwrap-place.ensures)).wide
 
 pub part_of-here-requires-clause-within : goal.part_of-here-requires-clause-within
-part_of-here-requires-clause-within c = (part_is c.args.count c.args.last c.args.width c.args.low.now c.args.high.now c.loop-i.i c.unwrap-place.result c.requires c.loop-i-test.true
+part_of-here-requires-clause-within c =
+    (part_is c.args.count c.args.last c.args.width c.args.low.now c.args.high.now c.loop-i.i c.unwrap-place.result c.requires c.loop-i-test.true
     (ap (λ (k : ℕ). slice_get (places c.args.high.now) k) (sym c.loop-i.invariant.passed) ∙ sym c.next1.ensures ∙ c.unwrap-place.ensures)).within
 
 pub part_of-here-requires-clause-before : goal.part_of-here-requires-clause-before
-part_of-here-requires-clause-before c = (part_is c.args.count c.args.last c.args.width c.args.low.now c.args.high.now c.loop-i.i c.unwrap-place.result c.requires c.loop-i-test.true
+part_of-here-requires-clause-before c =
+    (part_is c.args.count c.args.last c.args.width c.args.low.now c.args.high.now c.loop-i.i c.unwrap-place.result c.requires c.loop-i-test.true
     (ap (λ (k : ℕ). slice_get (places c.args.high.now) k) (sym c.loop-i.invariant.passed) ∙ sym c.next1.ensures ∙ c.unwrap-place.ensures)).before
 
 pub returns-then-is_below : goal.returns-then-is_below
@@ -44,14 +47,16 @@ returns-then-is_below c =
     let n = values-length c.args.count c.args.last w c.args.low.now c.args.high.now c.requires in
     let p = part_is c.args.count c.args.last c.args.width c.args.low.now c.args.high.now c.loop-i.i c.unwrap-place.result c.requires c.loop-i-test.true
     (ap (λ (k : ℕ). slice_get (places c.args.high.now) k) (sym c.loop-i.invariant.passed) ∙ sym c.next1.ensures ∙ c.unwrap-place.ensures) in
-    let v = value_is c.args.count c.args.last w c.args.low.now c.args.high.now i c.unwrap-place.result here p c.part_of-here.ensures.high c.part_of-here.ensures.low in
+    let v = value_is c.args.count c.args.last w c.args.low.now c.args.high.now i c.unwrap-place.result here p c.part_of-here.ensures.high
+    c.part_of-here.ensures.low in
     let less = parts-lt here.0 c.loop-i.before here.1 c.loop-i.low_before w v.1 (c.is_below.ensures.0 c.if-is_below.true) in
     let no = rises-drop_no vs i (c.loop-i.before * 2 ^ w + c.loop-i.low_before) (here.0 * 2 ^ w + here.1) (omega (arith, n, c.loop-i-test.true)) v.0 less in
     sym no ∙ c.loop-i.invariant.so_far
 
 pub overflow_add-from : goal.overflow_add-from
 overflow_add-from c =
-    let most = high-most c.args.count c.args.last c.args.width c.args.low.now c.args.high.now c.requires (omega (arith, c.loop-i-test.true)) c.ranges.last.fits in
+    let most = high-most c.args.count c.args.last c.args.width c.args.low.now c.args.high.now c.requires
+    (omega (arith, c.loop-i-test.true)) c.ranges.last.fits in
     let p = part_is c.args.count c.args.last c.args.width c.args.low.now c.args.high.now c.loop-i.i c.unwrap-place.result c.requires c.loop-i-test.true
     (ap (λ (k : ℕ). slice_get (places c.args.high.now) k) (sym c.loop-i.invariant.passed) ∙ sym c.next1.ensures ∙ c.unwrap-place.ensures) in
     omega (arith, most, p.here)
@@ -65,7 +70,8 @@ loop-i-preserved c =
     let n = values-length c.args.count c.args.last w c.args.low.now c.args.high.now c.requires in
     let p = part_is c.args.count c.args.last c.args.width c.args.low.now c.args.high.now c.loop-i.i c.unwrap-place.result c.requires c.loop-i-test.true
     (ap (λ (k : ℕ). slice_get (places c.args.high.now) k) (sym c.loop-i.invariant.passed) ∙ sym c.next1.ensures ∙ c.unwrap-place.ensures) in
-    let v = value_is c.args.count c.args.last w c.args.low.now c.args.high.now i c.unwrap-place.result here p c.part_of-here.ensures.high c.part_of-here.ensures.low in
+    let v = value_is c.args.count c.args.last w c.args.low.now c.args.high.now i c.unwrap-place.result here p c.part_of-here.ensures.high
+    c.part_of-here.ensures.low in
     let more = parts-le here.0 c.loop-i.before here.1 c.loop-i.low_before w c.loop-i.invariant.small
     (λ h. Rattle.std.proofs.lemmas.Bool.both_ways c.is_below.result c.if-is_below.false (c.is_below.ensures.1 h)) in
     let yes = rises-drop_yes vs i (c.loop-i.before * 2 ^ w + c.loop-i.low_before) (here.0 * 2 ^ w + here.1) (omega (arith, n, c.loop-i-test.true)) v.0 more in

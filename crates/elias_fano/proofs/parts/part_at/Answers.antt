@@ -32,7 +32,8 @@ returns-clause-value c =
     let w = c.args.width in
     let p = part_is c.args.count c.args.last w c.args.low.now c.args.high.now c.args.i c.unwrap-place.result c.requires.parts c.requires.within
     (sym c.select1.ensures ∙ c.unwrap-place.ensures) in
-    ap (λ (x : ℕ). x * 2 ^ w + c.part_of.result.1) c.part_of.ensures.high ∙ ap (λ (x : ℕ). (c.unwrap-place.result - c.args.i) * 2 ^ w + x) c.part_of.ensures.low ∙ p.value
+    ap (λ (x : ℕ). x * 2 ^ w + c.part_of.result.1) c.part_of.ensures.high
+    ∙ ap (λ (x : ℕ). (c.unwrap-place.result - c.args.i) * 2 ^ w + x) c.part_of.ensures.low ∙ p.value
 
 pub returns-clause-low : goal.returns-clause-low
 returns-clause-low c =

@@ -24,11 +24,13 @@ value_is count last w low high i place here p high_is low_is = (
 
 pub unwrap-place-requires : goal.unwrap-place-requires
 unwrap-place-requires c =
-    rw c.select1.ensures (has_place c.args.count c.args.last c.args.width c.args.low.now c.args.high.now c.args.i c.requires.parts (omega (arith, c.requires.within)))
+    rw c.select1.ensures (has_place c.args.count c.args.last c.args.width c.args.low.now c.args.high.now c.args.i c.requires.parts
+    (omega (arith, c.requires.within)))
 
 pub overflow_add-place : goal.overflow_add-place
 overflow_add-place c =
-    let most = high-most c.args.count c.args.last c.args.width c.args.low.now c.args.high.now c.requires.parts (omega (arith, c.requires.within)) c.ranges.last.fits in
+    let most = high-most c.args.count c.args.last c.args.width c.args.low.now c.args.high.now c.requires.parts
+    (omega (arith, c.requires.within)) c.ranges.last.fits in
     let p = part_is c.args.count c.args.last c.args.width c.args.low.now c.args.high.now c.args.i c.unwrap-place.result c.requires.parts
     (omega (arith, c.requires.within)) (sym c.select1.ensures ∙ c.unwrap-place.ensures) in
     omega (arith, most, p.here)

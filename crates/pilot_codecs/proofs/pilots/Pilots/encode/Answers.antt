@@ -30,7 +30,8 @@ pub invariant_of-result : goal.invariant_of-result
 invariant_of-result c =
     let vs = values_of c.in_ok-front-in-None.front in
     let few : length vs ≤ 2 ^ 30 = omega (arith, ap length c.in_ok-front-in-None.ensures.values, c.requires.few) in
-    let small : greatest vs < 2 ^ 32 = omega (arith, ap (λ (xs : List ℕ). greatest xs) c.in_ok-front-in-None.ensures.values, all_small c.args.values.now c.requires.small) in
+    let small : greatest vs < 2 ^ 32 =
+    omega (arith, ap (λ (xs : List ℕ). greatest xs) c.in_ok-front-in-None.ensures.values, all_small c.args.values.now c.requires.small) in
     record { split = few; fit = fits_small (code_of c.in_ok-front-in-None.front) vs few small }
 
 pub invariant_of-result-in-Some : goal.invariant_of-result-in-Some
