@@ -1,2 +1,1 @@
 mod NoText
-mod Writes

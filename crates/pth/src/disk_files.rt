@@ -1,5 +1,5 @@
 // The files of the disk. What they hold is not known to any proof.
-ghost use Rattle.std.specs.Prelude.{◌≡◌, ◌≤◌, None, false, IsErrOf, IfOk, IfErr, OnErr};
+ghost use Rattle.std.specs.Prelude.{◌≡◌, ◌≤◌, None, false, IsErrOf, IfOk};
 ghost use Rattle.pth_outside.specs.Files.{Rose};
 
 use crate::handles::{DiskErr, Handles};
@@ -32,11 +32,7 @@ impl<R: rt::Files + AllocGlobal> Files for DiskFiles<'_, R>
 where
     R::File: AsRawFd,
 {
-    ghost told = { λ _. None };
-
-    ghost faults = { λ f. f.faults };
-
-    ghost sure = { λ _. false };
+    ghost state = { λ f. record { told = None; faults = f.faults; sure = false } };
 
     fn read_at(&mut self, name: &str, at: u64, into: &mut [u8]) -> Result<usize, FileErr> {
         counted(self.handles.read_at(name, at, into), &mut self.faults)

@@ -7,6 +7,7 @@ ghost use Rattle.command_words.specs.Words.{fault_at};
 ghost use Rattle.command_words.specs.declared.kinds.TheConstants.{COMMAND};
 ghost use Rattle.pth_outside.specs.Sink.{WritesFront};
 ghost use Rattle.pth_top.specs.Ending.{EndsAs};
+ghost use Rattle.pth_top.specs.declared.TheConstants.{NO_MEMORY};
 ghost use Rattle.pth_top.specs.Texts.{no_memory};
 ghost use Rattle.pth_top.specs.Words.{refused};
 
@@ -16,16 +17,13 @@ mod std_sink;
 
 use disk_files::DiskFiles;
 use pth_outside::{Files, Sink};
-use pth_top::run;
+use pth_top::{run, show_want};
 use std::alloc::Global;
 use std::env::Args;
 use std::io::ErrorKind;
 use std::process::ExitCode;
 use std::{env, io};
 use std_sink::StdSink;
-
-// The status of a want of memory.
-const NO_MEMORY: u8 = 9;
 
 fn main(rt: HostRuntime) -> ExitCode {
     let mut files = DiskFiles::new(&rt);
@@ -44,9 +42,10 @@ fn answer<R, F: Files, O: Sink>(
 ) -> u8
     ensures want { IfErr args (λ e. error_kind e ≡ ErrorKind.OutOfMemory → result ≡ NO_MEMORY) }
     ensures no_text { IfErr args (λ e. error_kind e ≢ ErrorKind.OutOfMemory → result ≢ NO_MEMORY →
-        EndsAs (refused (fault_at 0 COMMAND)) result (O.told out.old) (O.told out.new) (O.faults out.old) (O.faults out.new)) }
+        EndsAs (refused (fault_at 0 COMMAND)) result
+        (O.state out.old) (O.state out.new) (F.state files.old).told (F.state files.new).told) }
     ensures text { IsErr args → result ≡ NO_MEMORY →
-        WritesFront no_memory (O.told out.old) (O.told out.new) }
+        WritesFront no_memory (O.state out.old) (O.state out.new) }
     ensures no_call { IsErr args → files.new ≡ files.old }
 {
     match words_after(alloc, args) {
@@ -66,13 +65,4 @@ fn words_after(alloc: Global, args: io::Result<Args>) -> io::Result<Vec<String>>
         words.push(word)?;
     }
     Ok(words)
-}
-
-// Says that memory ran out, if the sink takes it.
-fn show_want<O: Sink>(out: &mut O) -> u8
-    ensures status { result ≡ NO_MEMORY }
-    ensures text { WritesFront no_memory (O.told out.old) (O.told out.new) }
-{
-    let _ = out.write(b"no memory\n");
-    NO_MEMORY
 }

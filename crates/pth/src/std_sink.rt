@@ -15,14 +15,12 @@ pub struct StdSink<'a, R: Print> {
 impl<'a, R: Print> StdSink<'a, R> {
     /// The standard output of the program.
     pub fn new(rt: &'a R) -> Self {
-        StdSink { rt, faults: 0 }
+        Self { rt, faults: 0 }
     }
 }
 
 impl<R: Print> Sink for StdSink<'_, R> {
-    ghost told = { λ _. None };
-
-    ghost faults = { λ s. s.faults };
+    ghost state = { λ s. record { told = None; faults = s.faults } };
 
     fn write(&mut self, piece: &[u8]) -> Result<(), SinkErr> {
         match write_whole(self.rt, piece) {

@@ -15,7 +15,7 @@ mod top;
 
 pub use command_words::{Command, Options, WordFault, WordsErr, read_words};
 pub use settings::{Code, Encoding, How, Map, Settings, Shape};
-pub use top::run;
+pub use top::{run, show_want};
 
 // The statuses.
 const WORDS_REFUSED: u8 = 1;
@@ -30,4 +30,5 @@ const SEEDS_EXHAUSTED: u8 = 5;
 
 const FAILED_OUTPUT: u8 = 8;
 
-const NO_MEMORY: u8 = 9;
+/// The status where memory ran out.
+pub const NO_MEMORY: u8 = 9;

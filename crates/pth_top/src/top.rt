@@ -144,8 +144,8 @@ fn show<O: Sink>(out: &mut O, status: u8, text: &[u8]) -> u8
     }
 }
 
-// Says that memory ran out, if the sink takes it.
-fn show_want<O: Sink>(out: &mut O) -> u8
+/// Says that memory ran out, if the sink takes it, and answers the status of that.
+pub fn show_want<O: Sink>(out: &mut O) -> u8
     ensures status { result ≡ NO_MEMORY }
     ensures text { WritesFront no_memory (O.state out.old) (O.state out.new) }
     ensures leaves { LeavesSink (O.state out.old) (O.state out.new) (result ≡ FAILED_OUTPUT) }

@@ -1,7 +1,0 @@
-use Rattle.pth.proofs.Writes.{front_of_write}
-use Rattle.pth_top.specs.Texts.{no_memory}
-use Rattle.pth.proofs.show_want.Goals as goal
-
-pub returns-clause-text : goal.returns-clause-text
-returns-clause-text g c =
-    front_of_write no_memory _ _ c.write.result c.write.ensures.ok c.write.ensures.front c.write.ensures.kept
