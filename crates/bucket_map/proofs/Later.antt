@@ -31,7 +31,8 @@ no_later-from_test x y test =
     elim (cases_order x.a y.a) [
       | inl same_a ↦
           let test_b : is_lt (ordering_then (nat_cmp y.b x.b) (nat_cmp y.ordinal x.ordinal)) ≡ false =
-          ap (λ (o : Ordering). is_lt (ordering_then (ordering_then o (nat_cmp y.b x.b)) (nat_cmp y.ordinal x.ordinal))) (sym (nat_cmp-eq y.a x.a (sym same_a))) ∙ test in
+          ap (λ (o : Ordering). is_lt (ordering_then (ordering_then o (nat_cmp y.b x.b)) (nat_cmp y.ordinal x.ordinal)))
+          (sym (nat_cmp-eq y.a x.a (sym same_a))) ∙ test in
           inr (
             same_a,
             elim (cases_order x.b y.b) [

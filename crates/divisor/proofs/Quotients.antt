@@ -3,7 +3,8 @@ use Rattle.std.proofs.Common.{◌≡◌, ℕ, ◌+◌, ◌*◌, ◌-◌, ◌/◌
 use Rattle.std.proofs.Math.Nat.{div-add-mod, mod-lt, mul-le-mul_left, mod-eq_of_lt, mul_comm, add-mul-mod_self_left}
 
 -- the quotient q of x * v by 2 ^ 64, where v is the reciprocal of n: n * q is at most x, and above x - 2 * n
-near : (x n v s q r : ℕ) → n * v + s ≡ 18446744073709551615 → s + 1 ≤ n → 18446744073709551616 * q + r ≡ x * v → r < 18446744073709551616 → x < 18446744073709551616
+near : (x n v s q r : ℕ) → n * v + s ≡ 18446744073709551615 → s + 1 ≤ n → 18446744073709551616 * q + r ≡ x * v → r < 18446744073709551616 →
+    x < 18446744073709551616
     → (n * q ≤ x) × (x < n * q + 2 * n)
 near x n v s q r reciprocal s_small quotient r_small x_small =
     let f1 : n * (18446744073709551616 * q + r) ≡ n * (x * v) = ap (λ k. n * k) quotient in
@@ -18,9 +19,11 @@ pub quotient_near : (x n v : ℕ) → 1 ≤ n → v ≡ 18446744073709551615 / n
     → (x * v / 18446744073709551616 * n ≤ x) × (x < x * v / 18446744073709551616 * n + 2 * n)
 quotient_near x n v positive exact x_small =
     let q : ℕ = x * v / 18446744073709551616 in
-    let reciprocal : n * v + 18446744073709551615 % n ≡ 18446744073709551615 = ap (λ k. n * k + 18446744073709551615 % n) exact ∙ div-add-mod 18446744073709551615 n in
+    let reciprocal : n * v + 18446744073709551615 % n ≡ 18446744073709551615 = ap (λ k. n * k + 18446744073709551615 % n) exact
+    ∙ div-add-mod 18446744073709551615 n in
     let s_small : 18446744073709551615 % n + 1 ≤ n = omega (arith, mod-lt 18446744073709551615 {m = n} positive) in
-    let both = near x n v (18446744073709551615 % n) q (x * v % 18446744073709551616) reciprocal s_small (div-add-mod (x * v) 18446744073709551616) (mod-lt (x * v) {m = 18446744073709551616} (omega arith)) x_small in
+    let both = near x n v (18446744073709551615 % n) q (x * v % 18446744073709551616) reciprocal s_small (div-add-mod (x * v) 18446744073709551616)
+    (mod-lt (x * v) {m = 18446744073709551616} (omega arith)) x_small in
     (omega (arith, both.0, mul_comm q n), omega (arith, both.1, mul_comm q n))
 
 unique : (x n q r : ℕ) → x ≡ r + n * q → r < n → x % n ≡ r

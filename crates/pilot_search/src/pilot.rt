@@ -42,9 +42,13 @@ pub(crate) fn find_pilot(
             return None;
         }
     }
-    match find_kept(members, first, seed, limit, size, occupied, hashes, positions, marks) {
+    match find_kept(
+        members, first, seed, limit, size, occupied, hashes, positions, marks,
+    ) {
         Some(pilot) => Some(pilot),
-        None => find_beyond(members, first, seed, limit, size, occupied, hashes, positions, marks),
+        None => find_beyond(
+            members, first, seed, limit, size, occupied, hashes, positions, marks,
+        ),
     }
 }
 
@@ -73,7 +77,14 @@ fn find_kept(
     ensures marks { AreMarks marks.new [] }
 {
     for pilot in first..limit.min(hashes.len() as u64) {
-        if is_fit(members, hashes[pilot as usize], size, occupied, positions, marks) {
+        if is_fit(
+            members,
+            hashes[pilot as usize],
+            size,
+            occupied,
+            positions,
+            marks,
+        ) {
             return Some(pilot);
         }
     }
@@ -110,7 +121,14 @@ fn find_beyond(
     }
     let kept = limit.min(hashes.len() as u64);
     for pilot in first.max(kept)..limit {
-        if is_fit(members, pilot_hash(pilot, seed), size, occupied, positions, marks) {
+        if is_fit(
+            members,
+            pilot_hash(pilot, seed),
+            size,
+            occupied,
+            positions,
+            marks,
+        ) {
             return Some(pilot);
         }
     }

@@ -1,9 +1,11 @@
 -- Sets of positions of a table: what they hold, and how they gain a position.
-use Rattle.std.specs.Prelude.{◌≡◌, ℕ, zero, suc, ◌+◌, ◌<◌, ◌≤◌, Bool, true, false, ◌&&◌, ◌||◌, cond, nat_lt, nat_eq, List, [], ◌∷◌, ◌++◌, length, filter, bit_xor}
+use Rattle.std.specs.Prelude.{◌≡◌, ℕ, zero, suc, ◌+◌, ◌<◌, ◌≤◌, Bool, true, false, ◌&&◌}
+use Rattle.std.specs.Prelude.{◌||◌, cond, nat_lt, nat_eq, List, [], ◌∷◌, ◌++◌, length, filter, bit_xor}
 use Rattle.std.specs.List.{list_any, list_all}
 use Rattle.std.specs.Ordering.{nat_cmp}
 use Rattle.std.specs.Cmp.{nat_cmp_total, unsigned_tied}
-use Rattle.std.specs.FinSet.{empty, contains, insert, union, from_list, len, contains-empty, contains-insert, contains-union, contains-from_list_nat, len-empty, len-insert, same_set, nat_cmp-IsAntisymmetric}
+use Rattle.std.specs.FinSet.{empty, contains, insert, union, from_list, len, contains-empty}
+use Rattle.std.specs.FinSet.{contains-insert, contains-union, contains-from_list_nat, len-empty, len-insert, same_set, nat_cmp-IsAntisymmetric}
 use Rattle.std.proofs.Common.{refl, sym, ap, ◌∙◌, subst, arith, ⊎_elim}
 use Rattle.std.proofs.Math.Bool.{or-false}
 use Rattle.std.proofs.Math.Nat.{mod-lt}
@@ -74,7 +76,8 @@ pub same_positions : (s t : Positions) → ((q : ℕ) → contains s q ≡ conta
 same_positions s t = same_set nat_cmp_total nat_cmp-IsAntisymmetric s t
 
 -- where one more position passes, the set gains it
-pub set_of-one_more : (size : ℕ) (test more : ℕ → Bool) (p : ℕ) → p < size → ((q : ℕ) → more q ≡ (nat_eq q p || test q)) → set_of size more ≡ insert (set_of size test) p
+pub set_of-one_more : (size : ℕ) (test more : ℕ → Bool) (p : ℕ) → p < size → ((q : ℕ) → more q ≡ (nat_eq q p || test q)) →
+    set_of size more ≡ insert (set_of size test) p
 set_of-one_more size test more p in_range gained =
     same_positions (set_of size more) (insert (set_of size test) p) (λ q.
     contains-set_of size more q
@@ -121,7 +124,8 @@ len-from_list (p ∷ ps) = omega (arith, len-one_more (from_list ps) p (length p
 pub len-set_of : (size : ℕ) (test : ℕ → Bool) → len (set_of size test) ≤ size
 unfolding set_of
 len-set_of size test =
-    omega (arith, len-from_list (filter test (numbers_below size)), length-filter test (numbers_below size), count_by-le-length test (numbers_below size), length-numbers_below size)
+    let kept : List ℕ = filter test (numbers_below size) in
+    omega (arith, len-from_list kept, length-filter test (numbers_below size), count_by-le-length test (numbers_below size), length-numbers_below size)
 
 -- a new position is one more
 pub len-insert_new : (s : Positions) (p : ℕ) → contains s p ≡ false → len (insert s p) ≡ len s + 1

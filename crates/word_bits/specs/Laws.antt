@@ -17,7 +17,8 @@ or_other n k i ne = bit_at_or n (2 ^ k) i ∙ ap (λ x. max (bit_at n i) x) (bit
 -- the bit itself
 pub is_set-set_same : (words : List ℕ) (first q : ℕ) → word_of first q < length words → is_set (set_bit words first q) first q ≡ true
 is_set-set_same words first q lt =
-    rw (get_or-set_same words (first + q / 64) (bit_or (get_or words (first + q / 64) 0) (2 ^ (q % 64))) 0 lt, or_same (get_or words (first + q / 64) 0) (q % 64)) refl
+    let word : ℕ = get_or words (first + q / 64) 0 in
+    rw (get_or-set_same words (first + q / 64) (bit_or word (2 ^ (q % 64))) 0 lt, or_same word (q % 64)) refl
 
 -- another bit of the same word
 same_word : (words : List ℕ) (w i k : ℕ) → i ≢ k → bit_at (get_or (set words w (bit_or (get_or words w 0) (2 ^ k))) w 0) i ≡ bit_at (get_or words w 0) i
@@ -27,7 +28,8 @@ same_word words w i k ne =
       | inr le ↦ rw (set_past words w (bit_or (get_or words w 0) (2 ^ k)) le) refl
     ]
 
-other_bit : (words : List ℕ) (first p q : ℕ) → p ≢ q → bit_at (get_or (set_bit words first q) (first + p / 64) 0) (p % 64) ≡ bit_at (get_or words (first + p / 64) 0) (p % 64)
+other_bit : (words : List ℕ) (first p q : ℕ) → p ≢ q →
+    bit_at (get_or (set_bit words first q) (first + p / 64) 0) (p % 64) ≡ bit_at (get_or words (first + p / 64) 0) (p % 64)
 other_bit words first p q ne =
     elim (cases_eq (p / 64) (q / 64)) [
       | inl e ↦
