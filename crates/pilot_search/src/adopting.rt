@@ -63,7 +63,15 @@ fn adopt_pilots(
 {
     let size = Divisor::new(plan.size());
     for rank in 0..known.len() {
-        adopt_pilot(plan, rank as u64, known[rank], &size, pilots, occupied, scratch);
+        adopt_pilot(
+            plan,
+            rank as u64,
+            known[rank],
+            &size,
+            pilots,
+            occupied,
+            scratch,
+        );
     }
 }
 

@@ -47,9 +47,13 @@ pub(crate) fn find_pilot(
             return None;
         }
     }
-    match find_among_kept(members, first, seed, limit, size, occupied, hashes, positions, marks) {
+    match find_among_kept(
+        members, first, seed, limit, size, occupied, hashes, positions, marks,
+    ) {
         Some(pilot) => Some(pilot),
-        None => find_beyond(members, first, seed, limit, size, occupied, hashes, positions, marks),
+        None => find_beyond(
+            members, first, seed, limit, size, occupied, hashes, positions, marks,
+        ),
     }
 }
 
@@ -79,9 +83,13 @@ fn find_among_kept(
     ensures marks { AreMarks marks.new [] }
 {
     if occupied.count() > occupied.size() / 2 {
-        find_kept_fuller(members, first, seed, limit, size, occupied, hashes, positions, marks)
+        find_kept_fuller(
+            members, first, seed, limit, size, occupied, hashes, positions, marks,
+        )
     } else {
-        find_kept(members, first, seed, limit, size, occupied, hashes, positions, marks)
+        find_kept(
+            members, first, seed, limit, size, occupied, hashes, positions, marks,
+        )
     }
 }
 
@@ -110,7 +118,14 @@ fn find_kept(
     ensures marks { AreMarks marks.new [] }
 {
     for pilot in first..limit.min(hashes.len() as u64) {
-        if is_fit(members, hashes[pilot as usize], size, occupied, positions, marks) {
+        if is_fit(
+            members,
+            hashes[pilot as usize],
+            size,
+            occupied,
+            positions,
+            marks,
+        ) {
             return Some(pilot);
         }
     }
@@ -147,7 +162,9 @@ fn find_kept_fuller(
     while next < end {
         let open = next_open(members, hashes, next, end, size, occupied);
         let stop = end.min(open + GROUP);
-        match find_kept(members, open, seed, stop, size, occupied, hashes, positions, marks) {
+        match find_kept(
+            members, open, seed, stop, size, occupied, hashes, positions, marks,
+        ) {
             Some(pilot) => return Some(pilot),
             None => {}
         }
@@ -230,7 +247,14 @@ fn find_beyond(
     }
     let kept = limit.min(hashes.len() as u64);
     for pilot in first.max(kept)..limit {
-        if is_fit(members, pilot_hash(pilot, seed), size, occupied, positions, marks) {
+        if is_fit(
+            members,
+            pilot_hash(pilot, seed),
+            size,
+            occupied,
+            positions,
+            marks,
+        ) {
             return Some(pilot);
         }
     }

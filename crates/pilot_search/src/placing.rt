@@ -112,7 +112,13 @@ pub fn place_from(plan: &Plan, placed: Placed, scratch: &mut Scratch) -> Result<
     ensures room { scratch.new.members ≡ scratch.old.members }
 {
     let mut placed = placed;
-    place_ranks(plan, placed.done, &mut placed.pilots, &mut placed.occupied, scratch)?;
+    place_ranks(
+        plan,
+        placed.done,
+        &mut placed.pilots,
+        &mut placed.occupied,
+        scratch,
+    )?;
     placed.done = plan.ranks();
     Ok(placed)
 }

@@ -47,7 +47,14 @@ impl Share {
     {
         let size = Divisor::new(occupied.size());
         let start = self.start;
-        test_run(plan, occupied, &size, start, self.firsts.as_mut_slice(), &mut self.scratch);
+        test_run(
+            plan,
+            occupied,
+            &size,
+            start,
+            self.firsts.as_mut_slice(),
+            &mut self.scratch,
+        );
     }
 
     // Where the search for the pilot of a bucket goes on.
@@ -209,7 +216,9 @@ fn place_in_rounds<R: Threads + Sync>(
     while start < ranks {
         let end = ranks.min(start + run * shares.len() as u64);
         test_shares(rt, plan, occupied, shares, start, run);
-        place_round(plan, start, end, run, shares, &size, pilots, occupied, scratch)?;
+        place_round(
+            plan, start, end, run, shares, &size, pilots, occupied, scratch,
+        )?;
         start = end;
     }
     Ok(())
@@ -233,7 +242,12 @@ fn test_shares<R: Threads + Sync>(
         next = next.saturating_add(run);
     }
     let threads = shares.len();
-    thread::for_each_mut(rt, shares, threads, &|_, share: &mut Share| share.test(plan, occupied));
+    thread::for_each_mut(
+        rt,
+        shares,
+        threads,
+        &|_, share: &mut Share| share.test(plan, occupied),
+    );
 }
 
 // Gives each bucket of a round its pilot, sought from where it was tested to.

@@ -12,10 +12,12 @@ returns-then-not-are_distinct-clause-pilot c =
 
 pub loop-pilot-init : goal.loop-pilot-init
 loop-pilot-init c = record {
-  fails = record { fails = λ j below.
-      ⊎_elim
-      (λ (lower : j < c.args.first). c.requires.no_lower.fails j lower)
-      (λ (higher : c.args.first ≤ j). c.requires.none_kept.fails j (omega arith))
-      (cases_lt j c.args.first) };
+  fails = record {
+    fails = λ j below.
+        ⊎_elim
+        (λ (lower : j < c.args.first). c.requires.no_lower.fails j lower)
+        (λ (higher : c.args.first ≤ j). c.requires.none_kept.fails j (omega arith))
+        (cases_lt j c.args.first);
+  };
   marks = c.are_distinct.ensures.marks;
 }
