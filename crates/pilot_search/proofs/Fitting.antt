@@ -1,5 +1,5 @@
 -- Positions that fit, one after another.
-use Rattle.std.proofs.Common.{◌≡◌, ℕ, ◌+◌, ◌<◌, Bool, true, false, ◌&&◌, ◌||◌, List, [], ◌∷◌, ◌++◌, length, take, drop, get_or, refl, sym, ap, ◌∙◌, subst, ⊎_elim}
+use Rattle.std.proofs.Common.{◌≡◌, ℕ, ◌+◌, ◌-◌, ◌<◌, ◌≤◌, arith, Bool, true, false, ◌&&◌, ◌||◌, List, [], ◌∷◌, ◌++◌, length, take, drop, get_or, refl, sym, ap, ◌∙◌, subst, ⊎_elim}
 use Rattle.std.specs.Prelude.{not, nat_eq, bit_xor, ◌%◌}
 use Rattle.std.specs.List.{list_all}
 use Rattle.std.proofs.Math.Bool.{and-false}
@@ -8,7 +8,8 @@ use Rattle.std.proofs.lemmas.List.{take_more, take-append-drop, get_or-map, leng
 use Rattle.std.proofs.lemmas.List.Folds.{list_all-append, list_any-append}
 use Rattle.std.proofs.lemmas.List.Sums.{AllPass-from_list_all}
 use Rattle.pthash.specs.Search.{fits, is_among, is_distinct}
-use Rattle.pilot_search.specs.Table.{positions_under}
+use Rattle.pilot_search.specs.Table.{Table, IsBlocked, positions_under}
+use Rattle.std.specs.FinSet.{contains}
 
 same_test : (x y : ℕ) → nat_eq x y ≡ nat_eq y x
 same_test x y =
@@ -125,3 +126,19 @@ get_or-positions_under hash size members i in_range = get_or-map (λ b. bit_xor 
 
 pub length-positions_under : (hash size : ℕ) (members : List ℕ) → length (positions_under hash size members) ≡ length members
 length-positions_under hash size members = length-map members (λ b. bit_xor b hash % size)
+
+taken_fails : (taken : ℕ → Bool) (hash size : ℕ) (members : List ℕ) (i : ℕ) → i < length members → taken (bit_xor (get_or members i 0) hash % size) ≡ true
+    → fits taken (positions_under hash size members) ≡ false
+taken_fails taken hash size members i in_range known =
+    ap (λ b. b && is_distinct (positions_under hash size members))
+    (taken_at taken (positions_under hash size members) i (bit_xor (get_or members i 0) hash % size) (omega (arith, length-positions_under hash size members)) (get_or-positions_under hash size members i in_range) known)
+
+-- a pilot under which the first or the last member has a taken position doesn't fit
+pub blocked_fails : (table : Table) (hash : ℕ) (members : List ℕ) → 1 ≤ length members → IsBlocked members table hash → fits (contains table.taken) (positions_under hash table.size members) ≡ false
+blocked_fails table hash members some blocked =
+    elim (contains table.taken (bit_xor (get_or members 0 0) hash % table.size)) as (λ b. contains table.taken (bit_xor (get_or members 0 0) hash % table.size) ≡ b → fits (contains table.taken) (positions_under hash table.size members) ≡ false) [
+      | true ↦ λ first. taken_fails (contains table.taken) hash table.size members 0 (omega arith) first
+      | false ↦ λ free.
+          taken_fails (contains table.taken) hash table.size members (length members - 1) (omega arith)
+          (ap (λ b. b || contains table.taken (bit_xor (get_or members (length members - 1) 0) hash % table.size)) (sym free) ∙ blocked)
+    ] refl

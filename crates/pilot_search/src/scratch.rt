@@ -90,6 +90,7 @@ impl Scratch {
         size: &Divisor,
         occupied: &Occupancy,
     ) -> Option<u64>
+        requires some { 1 ≤ length members.now }
         requires room { length members.now ≤ self.old.members }
         requires size { size.now ≡ occupied.now.size }
         requires no_lower { let fit = pilot_fits seed size.now (contains occupied.now.taken) in
