@@ -29,12 +29,14 @@ loop-seed-preserved c =
     elim c.match-branch-2.branch [
       | in-Clashed+else-are_equal+in_ok-push-in-Clashed w ↦
           clashed_here (rules_of (settings_data c.args.settings.now)) c.args.keys.now c.loop-seed.causes.items
-          c.match-branch-2.causes.items c.args.settings.now.seeds.items c.loop-seed.seed-index _ w.in-Clashed.first w.in-Clashed.second (omega (arith, ap length c.deref-seed-items.ensures.value))
+          c.match-branch-2.causes.items c.args.settings.now.seeds.items c.loop-seed.seed-index _ w.in-Clashed.first w.in-Clashed.second
+          (omega (arith, ap length c.deref-seed-items.ensures.value))
           (ap (λ (xs : List ℕ). get_or xs c.loop-seed.seed-index 0) c.deref-seed-items.ensures.value) c.loop-seed.invariant
           (ap attempt_data (sym w.in-Clashed.is) ∙ c.in_ok-partitions.ensures) (sym w.are_equal.ensures ∙ w.if-are_equal.false) (search rules)
       | in-Stuck+in_ok-push-in-Stuck w ↦
           stuck_here (rules_of (settings_data c.args.settings.now)) c.args.keys.now c.loop-seed.causes.items
-          c.match-branch-2.causes.items c.args.settings.now.seeds.items c.loop-seed.seed-index _ w.in-Stuck.partition w.in-Stuck.bucket (omega (arith, ap length c.deref-seed-items.ensures.value))
+          c.match-branch-2.causes.items c.args.settings.now.seeds.items c.loop-seed.seed-index _ w.in-Stuck.partition w.in-Stuck.bucket
+          (omega (arith, ap length c.deref-seed-items.ensures.value))
           (ap (λ (xs : List ℕ). get_or xs c.loop-seed.seed-index 0) c.deref-seed-items.ensures.value) c.loop-seed.invariant
           (ap attempt_data (sym w.in-Stuck.is) ∙ c.in_ok-partitions.ensures) (search rules)
     ]
