@@ -27,6 +27,7 @@ pub encoding_in-some : (text : List ℕ) (encoding : Encoding) →
 unfolding encoding_in
 encoding_in-some text encoding is = ap (λ r. ok_or r RANGE) (sym is)
 
+-- a text that names no encoding
 pub encoding_in-none : (text : List ℕ) → None ≡ encoding_of text (cut_at DASH text) → encoding_in text ≡ Err RANGE
 unfolding encoding_in
 encoding_in-none text is = ap (λ r. ok_or r RANGE) (sym is)

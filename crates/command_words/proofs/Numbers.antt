@@ -96,6 +96,7 @@ pub number_in-low : (low high n : ℕ) (bs : List ℕ) → Some n ≡ number_of 
 unfolding number_in
 number_in-low low high n bs is below = rw (sym is) (grind (arith, nat_tests))
 
+-- a number above the range
 pub number_in-high : (low high n : ℕ) (bs : List ℕ) → Some n ≡ number_of bs → high < n →
     number_in low high bs ≡ Err RANGE
 unfolding number_in

@@ -40,6 +40,7 @@ between-ok low high n (Some m) is =
       | false ↦ λ above e. cc
     ] refl is
 
+-- a number that is taken is in its range
 number_in-ok : (low high n : ℕ) (text : List ℕ) → number_in low high text ≡ Ok n → (low ≤ n) × (n ≤ high)
 unfolding number_in
 number_in-ok low high n text is = between-ok low high n (number_of text) is
@@ -58,6 +59,7 @@ length-numbers_of (text ∷ texts) ns is =
       | None ↦ λ e. cc
     ] is
 
+-- seeds that are taken are few
 few_seeds-ok : (r : Option (List ℕ)) (seeds : List ℕ) → few_seeds r ≡ Ok seeds →
     (r ≡ Some seeds) × (length seeds ≤ limits.MAX_SEEDS)
 few_seeds-ok None seeds is = cc
@@ -68,6 +70,7 @@ few_seeds-ok (Some ns) seeds is =
       | false ↦ λ few e. cc
     ] refl is
 
+-- seeds that a text lists are some and few
 seeds_in-ok : (text seeds : List ℕ) → seeds_in text ≡ Ok seeds → (1 ≤ length seeds) × (length seeds ≤ limits.MAX_SEEDS)
 unfolding seeds_in
 seeds_in-ok text seeds is =
@@ -138,16 +141,19 @@ with_value-in_range setting.Limit text g next h is =
     let r = number_in-ok 1 MAX_KEYS p.0 text p.1 in
     subst (λ g. IsInRange (options_of g)) p.2 (assumption (h, r))
 
+-- a value by its name keeps the ranges
 with_named-in_range : (s : Option Setting) (text : List ℕ) (g next : Given) → IsInRange (options_of g) →
     with_named s text g ≡ Ok next → IsInRange (options_of next)
 with_named-in_range None text g next h is = cc
 with_named-in_range (Some s) text g next h is = with_value-in_range s text g next h is
 
+-- a value by a cut word keeps the ranges
 with_parts-in_range : (parts : Option (List ℕ × List ℕ)) (g next : Given) → IsInRange (options_of g) →
     with_parts parts g ≡ Ok next → IsInRange (options_of next)
 with_parts-in_range None g next h is = cc
 with_parts-in_range (Some parts) g next h is = with_named-in_range (setting_of parts.0) parts.1 g next h is
 
+-- a value by a word keeps the ranges
 with_word-in_range : (word : List ℕ) (g next : Given) → IsInRange (options_of g) → with_word word g ≡ Ok next →
     IsInRange (options_of next)
 unfolding with_word

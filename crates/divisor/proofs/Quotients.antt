@@ -26,6 +26,7 @@ quotient_near x n v positive exact x_small =
     (mod-lt (x * v) {m = 18446744073709551616} (omega arith)) x_small in
     (omega (arith, both.0, mul_comm q n), omega (arith, both.1, mul_comm q n))
 
+-- a remainder below the divisor is the remainder
 unique : (x n q r : ℕ) → x ≡ r + n * q → r < n → x % n ≡ r
 unique x n q r is below = ap (λ k. k % n) is ∙ add-mul-mod_self_left r n q ∙ mod-eq_of_lt below
 

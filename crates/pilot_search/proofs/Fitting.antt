@@ -11,6 +11,7 @@ use Rattle.pthash.specs.Search.{fits, is_among, is_distinct}
 use Rattle.pilot_search.specs.Table.{Table, IsBlocked, positions_under}
 use Rattle.std.specs.FinSet.{contains}
 
+-- equality of numbers, either way round
 same_test : (x y : ℕ) → nat_eq x y ≡ nat_eq y x
 same_test x y =
     ⊎_elim
@@ -18,6 +19,7 @@ same_test x y =
     (λ (other : x ≡ y → ⊥). let apart : y ≡ x → ⊥ = λ e. other (sym e) in rw (ne_eqb x y other, ne_eqb y x apart) refl)
     (cases_eq x y)
 
+-- one more position that is free and apart
 regrouped : (a d e b : Bool) → (not (a || (e || false)) && (d && not b)) ≡ ((not a && d) && not (e || b))
 regrouped true d e b = refl
 regrouped false true true b = refl
@@ -33,6 +35,7 @@ is_distinct-push (y ∷ ys) x =
     ∙ ap (λ b. not (is_among ys y || (b || false)) && (is_distinct ys && not (is_among ys x))) (same_test x y)
     ∙ regrouped (is_among ys y) (is_distinct ys) (nat_eq y x) (is_among ys x)
 
+-- one more position, by the tests on each
 paired : (a t d m : Bool) → ((a && (not t && true)) && (d && not m)) ≡ ((a && d) && not (t || m))
 paired true true true m = refl
 paired true true false m = refl
@@ -50,6 +53,7 @@ fits-push taken ps p =
 pub fits_more : (taken : ℕ → Bool) (ps : List ℕ) (i : ℕ) → i < length ps → fits taken (take (i + 1) ps) ≡ (fits taken (take i ps) && not (taken (get_or ps i 0) || is_among (take i ps) (get_or ps i 0)))
 fits_more taken ps i in_range = ap (fits taken) (take_more ps i 0 in_range) ∙ fits-push taken (take i ps) (get_or ps i 0)
 
+-- a front of distinct numbers is distinct
 is_distinct_part : (xs ys : List ℕ) → is_distinct (xs ++ ys) ≡ true → is_distinct xs ≡ true
 is_distinct_part [] ys distinct = refl
 is_distinct_part (x ∷ xs) ys distinct =
@@ -57,6 +61,7 @@ is_distinct_part (x ∷ xs) ys distinct =
     let none = or_parts (is_among xs x) (is_among ys x) (sym (list_any-append (λ z. nat_eq z x) xs ys) ∙ not-true (is_among (xs ++ ys) x) parts.0) in
     and_from (not (is_among xs x)) (is_distinct xs) (not_from_false (is_among xs x) none.0) (is_distinct_part xs ys parts.1)
 
+-- a front of positions that fit fits
 fits_part : (taken : ℕ → Bool) (ps qs : List ℕ) → fits taken (ps ++ qs) ≡ true → fits taken ps ≡ true
 fits_part taken ps qs fit =
     let parts = and_parts (list_all (λ q. not (taken q)) (ps ++ qs)) (is_distinct (ps ++ qs)) fit in
@@ -124,9 +129,11 @@ taken_at taken ps i p in_range here known =
 pub get_or-positions_under : (hash size : ℕ) (members : List ℕ) (i : ℕ) → i < length members → get_or (positions_under hash size members) i 0 ≡ bit_xor (get_or members i 0) hash % size
 get_or-positions_under hash size members i in_range = get_or-map (λ b. bit_xor b hash % size) members i 0 0 in_range
 
+-- one position for each member
 pub length-positions_under : (hash size : ℕ) (members : List ℕ) → length (positions_under hash size members) ≡ length members
 length-positions_under hash size members = length-map members (λ b. bit_xor b hash % size)
 
+-- a taken position fails the pilot
 taken_fails : (taken : ℕ → Bool) (hash size : ℕ) (members : List ℕ) (i : ℕ) → i < length members → taken (bit_xor (get_or members i 0) hash % size) ≡ true
     → fits taken (positions_under hash size members) ≡ false
 taken_fails taken hash size members i in_range known =

@@ -31,6 +31,7 @@ mark_within words x some =
     let e : word_of_mark words x ≡ mark_of words x / 64 = refl in
     omega (arith, bound, e)
 
+-- what is among one more and is not that one was among them
 among_more : (xs : List ℕ) (x y : ℕ) → is_among (xs ++ x ∷ []) y ≡ true → (x ≡ y → ⊥) → is_among xs y ≡ true
 among_more xs x y known other =
     let split : is_among (xs ++ x ∷ []) y ≡ (is_among xs y || (nat_eq x y || false)) = list_any-append (λ z. nat_eq z y) xs (x ∷ []) in

@@ -1,10 +1,9 @@
 -- An attempt, from the answer on clashes and the partitions.
 use Rattle.std.proofs.Common.{◌≡◌, ℕ, suc, ◌<◌, ◌≤◌, Bool, true, false, cond, List, [], ◌∷◌, length, map, Option, Some, None, sym, ap, ◌∙◌, arith}
 use Rattle.std.specs.Prelude.{filter, slice_index_or, ◌==◌}
-use Rattle.std.proofs.lemmas.List.{length-map, get_or-map}
+use Rattle.std.proofs.lemmas.List.Sums.{length-filter, count_by-le-length}
 use Rattle.pthash.specs.declared.Record.{Record}
-use Rattle.pthash.specs.Order.{numbers_below}
-use Rattle.pthash.specs.OrderLaws.{length-numbers_below}
+use Rattle.pthash.specs.PartitionLaws.{partition_at}
 use Rattle.pthash.specs.Partitions.{partitions_of}
 use Rattle.pthash.specs.Records.{records_of}
 use Rattle.pthash.specs.Sizes.{partition_of}
@@ -12,33 +11,11 @@ use Rattle.build_outcome.specs.Clash.{clash_of}
 use Rattle.build_outcome.specs.Attempt.{Rules, Attempt, clashed, attempt_of, parts_from, by_parts, unless_clash}
 use Rattle.pth_top.specs.Shown.{shown_attempt}
 
--- there are as many numbers as were asked for
-length-numbers : (m : ℕ) → length (numbers_below m) ≡ m
-length-numbers m = length-numbers_below m
-
--- there are as many partitions as were asked for
-pub length-partitions : (records : List Record) (parts : ℕ) → length (partitions_of records parts) ≡ parts
-unfolding partitions_of
-length-partitions records parts =
-    length-map (numbers_below parts) (λ part. filter (λ r. partition_of r.a r.b parts == part) records) ∙ length-numbers parts
-
--- what passes a test is no longer than the list
-length-filter-le : (test : Record → Bool) (records : List Record) → length (filter test records) ≤ length records
-length-filter-le test [] = omega arith
-length-filter-le test (r ∷ records) =
-    elim (test r) as (λ b. length (cond b (r ∷ filter test records) (filter test records)) ≤ suc (length records)) [
-      | true ↦ omega (arith, length-filter-le test records)
-      | false ↦ omega (arith, length-filter-le test records)
-    ]
-
 -- no partition has more records than the list
 pub partition_fits : (records : List Record) (parts part : ℕ) → part < parts → length (slice_index_or (partitions_of records parts) part []) ≤ length records
-unfolding partitions_of
 partition_fits records parts part within =
-    let cut : ℕ → List Record = λ k. filter (λ r. partition_of r.a r.b parts == k) records in
-    let here : slice_index_or (map cut (numbers_below parts)) part [] ≡ cut (slice_index_or (numbers_below parts) part 0) =
-    get_or-map cut (numbers_below parts) part 0 [] (omega (arith, length-numbers parts)) in
-    rw here (length-filter-le (λ r. partition_of r.a r.b parts == slice_index_or (numbers_below parts) part 0) records)
+    let test : Record → Bool = λ r. partition_of r.a r.b parts == part in
+    omega (arith, ap length (partition_at records parts part within), length-filter test records, count_by-le-length test records)
 
 -- an attempt that clashes
 pub clashed_attempt : (rules : Rules) (keys : List (List ℕ)) (seed i j : ℕ) (answer : Option (ℕ × ℕ)) →

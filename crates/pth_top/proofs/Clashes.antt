@@ -5,7 +5,8 @@ use Rattle.std.specs.Prelude.{◌↔◌, ◌==◌, IsNone}
 use Rattle.std.proofs.lemmas.Bool.{and_parts, eqb-true, false_from_ne_true, and_from, eq-eqb}
 use Rattle.pthash.specs.declared.Record.{Record}
 use Rattle.pthash.specs.Hash.{first_hash, second_hash}
-use Rattle.pthash.specs.Records.{records_from, records_of}
+use Rattle.pthash.specs.RecordLaws.{length-records_of, get_or-records_of, ordinals_differ}
+use Rattle.pthash.specs.Records.{records_of}
 use Rattle.bucket_map.specs.Clash.{HaveSamePair, HasDistinctPairs, HasDistinctOrdinals, record_at, Clash, IsLeastClash}
 use Rattle.build_outcome.specs.Clash.{key_at, is_twin, clash_of}
 use Rattle.build_outcome.specs.ClashLaws.{IsFirstClash, clash_of-found, clash_of-none}
@@ -13,38 +14,6 @@ use Rattle.build_outcome.specs.ClashLaws.{IsFirstClash, clash_of-found, clash_of
 -- the record of a key at a place
 abbrev pub record_of : List (List ℕ) → ℕ → ℕ → Record
 record_of keys seed k = record { a = first_hash (key_at keys k) seed; b = second_hash (key_at keys k) seed; ordinal = k }
-
--- there is a record for each key
-pub length-records_from : (place : ℕ) (keys : List (List ℕ)) (seed : ℕ) → length (records_from place keys seed) ≡ length keys
-length-records_from place [] seed = refl
-length-records_from place (key ∷ keys) seed = ap suc (length-records_from (place + 1) keys seed)
-
--- the record at a place is that of the key there, its ordinal counted on
-get_or-records_from : (place : ℕ) (keys : List (List ℕ)) (seed k : ℕ) (d : Record) → k < length keys →
-    get_or (records_from place keys seed) k d ≡ record { a = first_hash (key_at keys k) seed; b = second_hash (key_at keys k) seed; ordinal = place + k }
-get_or-records_from place [] seed k d within = absurd (omega arith)
-get_or-records_from place (key ∷ keys) seed zero d within =
-    let same : place ≡ place + 0 = omega arith in
-    λ i. record { a = first_hash key seed; b = second_hash key seed; ordinal = same i }
-get_or-records_from place (key ∷ keys) seed (suc k) d within =
-    let same : place + 1 + k ≡ place + suc k = omega arith in
-    get_or-records_from (place + 1) keys seed k d (omega arith)
-    ∙ (λ i. record { a = first_hash (key_at keys k) seed; b = second_hash (key_at keys k) seed; ordinal = same i })
-
--- the record at a place is that of the key there
-pub get_or-records_of : (keys : List (List ℕ)) (seed k : ℕ) (d : Record) → k < length keys → get_or (records_of keys seed) k d ≡ record_of keys seed k
-get_or-records_of keys seed k d within =
-    let same : 0 + k ≡ k = omega arith in
-    get_or-records_from 0 keys seed k d within
-    ∙ (λ i. record { a = first_hash (key_at keys k) seed; b = second_hash (key_at keys k) seed; ordinal = same i })
-
--- the ordinals are the places, so they differ
-pub ordinals_differ : (keys : List (List ℕ)) (seed : ℕ) → HasDistinctOrdinals (records_of keys seed)
-ordinals_differ keys seed i j d before within =
-    let inside : j < length keys = omega (arith, length-records_from 0 keys seed) in
-    let first : get_or (records_of keys seed) i d ≡ record_of keys seed i = get_or-records_of keys seed i d (omega arith) in
-    let second : get_or (records_of keys seed) j d ≡ record_of keys seed j = get_or-records_of keys seed j d inside in
-    λ same. let places : i ≡ j = ap (λ (r : Record). r.ordinal) (sym first) ∙ same ∙ ap (λ (r : Record). r.ordinal) second in absurd (omega arith)
 
 -- twins have records with the same pair
 same_pair_of_twins : (keys : List (List ℕ)) (seed x y : ℕ) → x < length keys → y < length keys → is_twin keys seed y x ≡ true →
@@ -65,7 +34,7 @@ same_pair_of_twins keys seed x y x_in y_in twins =
 clash_of_twins : (keys : List (List ℕ)) (seed x y : ℕ) → x < y → y < length keys → is_twin keys seed y x ≡ true → Clash (records_of keys seed) x y
 clash_of_twins keys seed x y before within twins =
     let d : Record = record { a = 0; b = 0; ordinal = 0 } in
-    let count : length (records_of keys seed) ≡ length keys = length-records_from 0 keys seed in
+    let count : length (records_of keys seed) ≡ length keys = length-records_of keys seed in
     record {
       first = x;
       second = y;
@@ -81,7 +50,7 @@ clash_of_twins keys seed x y before within twins =
 twins_of_clash : (keys : List (List ℕ)) (seed i j : ℕ) → Clash (records_of keys seed) i j → (j < length keys) × (is_twin keys seed j i ≡ true)
 twins_of_clash keys seed i j clash =
     let d : Record = record { a = 0; b = 0; ordinal = 0 } in
-    let count : length (records_of keys seed) ≡ length keys = length-records_from 0 keys seed in
+    let count : length (records_of keys seed) ≡ length keys = length-records_of keys seed in
     let first_in : clash.first < length keys = omega (arith, clash.first_inside) in
     let second_in : clash.second < length keys = omega (arith, clash.second_inside) in
     let first : record_at (records_of keys seed) clash.first ≡ record_of keys seed clash.first = get_or-records_of keys seed clash.first d first_in in
@@ -119,7 +88,7 @@ first_clash_of_least keys seed i j least =
 no_twins : (keys : List (List ℕ)) (seed : ℕ) → HasDistinctPairs (records_of keys seed) → (x y : ℕ) → x < y → y < length keys → is_twin keys seed y x ≡ false
 no_twins keys seed distinct x y before within =
     false_from_ne_true (is_twin keys seed y x)
-    (λ twins. distinct x y (record { a = 0; b = 0; ordinal = 0 }) before (omega (arith, length-records_from 0 keys seed))
+    (λ twins. distinct x y (record { a = 0; b = 0; ordinal = 0 }) before (omega (arith, length-records_of keys seed))
     (same_pair_of_twins keys seed x y (omega arith) within twins))
 
 -- what `least_clash` answers on the records of the keys is the first clash of the keys

@@ -6,7 +6,6 @@ mod Outcomes
 mod PartitionPilots
 mod PartitionResults
 mod Partitions
-mod RecordSteps
 mod Repeats
 mod Results
 mod TextSteps

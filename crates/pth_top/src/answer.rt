@@ -2,7 +2,8 @@
 ghost use Rattle.std.specs.Prelude.{◌≡◌};
 ghost use Rattle.pth_top.specs.declared.answer.Stop.TheVariants.{NoMemory as OutOfMemory};
 
-use std::alloc::{AllocError, AllocFailed};
+use bucket_map::NoMemory;
+use std::alloc::AllocError;
 
 /// The status and the text of a command that was done.
 #[derive(Drop)]
@@ -32,27 +33,5 @@ impl From<NoMemory> for Stop {
 
     fn from(_: NoMemory) -> Self {
         Stop::NoMemory
-    }
-}
-
-/// Memory ran out.
-#[derive(Clone, Copy, Debug, PartialEq, Eq)]
-pub struct NoMemory;
-
-impl From<AllocError> for NoMemory {
-    fn from(_: AllocError) -> Self {
-        Self
-    }
-}
-
-impl<T: Drop> From<AllocFailed<T>> for NoMemory {
-    fn from(_: AllocFailed<T>) -> Self {
-        Self
-    }
-}
-
-impl From<bucket_map::NoMemory> for NoMemory {
-    fn from(_: bucket_map::NoMemory) -> Self {
-        Self
     }
 }

@@ -6,11 +6,10 @@ ghost use Rattle.pth_top.specs.Built.{attempt_data};
 ghost use Rattle.pth_top.specs.Rules.{rules_of};
 ghost use Rattle.pth_top.specs.Shown.{shown_attempt};
 
-use crate::answer::NoMemory;
 use crate::partition::Partition;
 use crate::partition_pilots::build_partition;
 use crate::records::{first_clash, records_of_keys};
-use bucket_map::{MAX_KEYS, MAX_PARTITIONS, Partitions, partitioned};
+use bucket_map::{MAX_KEYS, MAX_PARTITIONS, NoMemory, Partitions, partitioned};
 use pth_outside::KeyList;
 use settings::Settings;
 use std::alloc::Global;

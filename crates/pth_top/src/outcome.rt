@@ -8,10 +8,9 @@ ghost use Rattle.pth_top.specs.Built.{outcome_data};
 ghost use Rattle.pth_top.specs.Rules.{rules_of};
 ghost use Rattle.pth_top.specs.Shown.{shown_outcome};
 
-use crate::answer::NoMemory;
 use crate::attempt::{Attempt, try_seed};
 use crate::partition::Partition;
-use bucket_map::MAX_KEYS;
+use bucket_map::{NoMemory, MAX_KEYS};
 use build_outcome::Cause;
 use pth_outside::KeyList;
 use settings::Settings;

@@ -10,9 +10,8 @@ ghost use Rattle.pth_top.specs.Built.{part_answer};
 ghost use Rattle.pth_top.specs.Rules.{rules_of, ArePilotsOf};
 ghost use Rattle.pth_top.specs.Shown.{shown_answer};
 
-use crate::answer::NoMemory;
 use crate::partition::Partition;
-use bucket_map::{Buckets, MAX_KEYS, Record, bucket_count, ordered_buckets, table_size};
+use bucket_map::{MAX_KEYS, Buckets, NoMemory, Record, bucket_count, ordered_buckets, table_size};
 use pilot_search::{Plan, Stuck, place};
 use settings::Settings;
 use std::alloc::{AllocError, Global};

@@ -3,8 +3,7 @@ ghost use Rattle.std.specs.Prelude.{◌≡◌, ◌↔◌, IfOk, IfSome, IsNone};
 ghost use Rattle.pthash.specs.Records.{records_of};
 ghost use Rattle.bucket_map.specs.Clash.{HasDistinctPairs, HasDistinctOrdinals, IsLeastClash};
 
-use crate::answer::NoMemory;
-use bucket_map::{Record, least_clash};
+use bucket_map::{NoMemory, Record, least_clash};
 use murmur64::hash_pair;
 use pth_outside::KeyList;
 use std::alloc::Global;

@@ -18,14 +18,17 @@ use Rattle.pthash.specs.Order.{numbers_below}
 use Rattle.pthash.specs.OrderLaws.{length-numbers_below}
 use Rattle.pthash.specs.Search.{Positions, set_of, position_of, positions_of}
 
+-- a number is among itself where it passes
 kept_same : (test : ℕ → Bool) (n : ℕ) → list_any (λ y. nat_eq y n) (filter test (n ∷ [])) ≡ test n
 kept_same test n =
     elim (test n) as (λ b. list_any (λ y. nat_eq y n) (cond b (n ∷ []) []) ≡ b) [ true ↦ rw (eq-eqb n n refl) refl | false ↦ refl ]
 
+-- a number is not among another
 kept_other : (test : ℕ → Bool) (n q : ℕ) → (n ≡ q → ⊥) → list_any (λ y. nat_eq y q) (filter test (n ∷ [])) ≡ false
 kept_other test n q other =
     elim (test n) as (λ b. list_any (λ y. nat_eq y q) (cond b (n ∷ []) []) ≡ false) [ true ↦ rw (ne_eqb n q other) refl | false ↦ refl ]
 
+-- one more number below the size
 one_more : (test : ℕ → Bool) (n q : ℕ) → ((nat_lt q n && test q) || list_any (λ y. nat_eq y q) (filter test (n ∷ []))) ≡ (nat_lt q (suc n) && test q)
 one_more test n q =
     ⊎_elim
@@ -110,6 +113,7 @@ insert_known s p known =
     (λ (other : q ≡ p → ⊥). rw (ne_eqb q p other) refl)
     (cases_eq q p))
 
+-- a set gains at most one
 len-one_more : (s : Positions) (p n : ℕ) → len s ≤ n → len (insert s p) ≤ n + 1
 len-one_more s p n bound =
     let e = len-insert nat_cmp_total s p in

@@ -8,9 +8,11 @@ use Rattle.std.proofs.lemmas.Nat.{one_shl}
 use Rattle.std.proofs.lemmas.Nat.Bits.{bit_at_or, bit_at-pow_same, bit_at-pow_other, bit_at-lt}
 use Rattle.word_bits.specs.Bits.{word_of, is_set, set_bit}
 
+-- or with a power of two sets that bit
 or_same : (n k : ℕ) → bit_at (bit_or n (2 ^ k)) k ≡ 1
 or_same n k = bit_at_or n (2 ^ k) k ∙ ap (λ x. max (bit_at n k) x) (bit_at-pow_same k) ∙ omega (arith, bit_at-lt n k)
 
+-- and no other
 or_other : (n k i : ℕ) → i ≢ k → bit_at (bit_or n (2 ^ k)) i ≡ bit_at n i
 or_other n k i ne = bit_at_or n (2 ^ k) i ∙ ap (λ x. max (bit_at n i) x) (bit_at-pow_other k i ne) ∙ omega arith
 
@@ -28,6 +30,7 @@ same_word words w i k ne =
       | inr le ↦ rw (set_past words w (bit_or (get_or words w 0) (2 ^ k)) le) refl
     ]
 
+-- another bit of the words
 other_bit : (words : List ℕ) (first p q : ℕ) → p ≢ q →
     bit_at (get_or (set_bit words first q) (first + p / 64) 0) (p % 64) ≡ bit_at (get_or words (first + p / 64) 0) (p % 64)
 other_bit words first p q ne =

@@ -8,8 +8,10 @@ use Rattle.pth_top.specs.Built.{attempt_data}
 use Rattle.settings.specs.Settings.{settings_data}
 use Rattle.pth_top.specs.Rules.{rules_of}
 use Rattle.pth_top.specs.Shown.{shown_attempt}
-use Rattle.pth_top.proofs.Attempts.{length-partitions, partition_fits, clashed_attempt, parted_attempt}
-use Rattle.pth_top.proofs.Clashes.{clash_of_seen, length-records_from}
+use Rattle.pthash.specs.PartitionLaws.{length-partitions_of}
+use Rattle.pthash.specs.RecordLaws.{length-records_of}
+use Rattle.pth_top.proofs.Attempts.{partition_fits, clashed_attempt, parted_attempt}
+use Rattle.pth_top.proofs.Clashes.{clash_of_seen}
 use Rattle.pth_top.proofs.attempt.try_seed.Goals as goal
 
 pub returns-in-Some : goal.returns-in-Some
@@ -21,14 +23,14 @@ returns-in-Some c =
 
 pub build_partitions-requires-clause-few_partitions : goal.build_partitions-requires-clause-few_partitions
 build_partitions-requires-clause-few_partitions c =
-    omega (arith, ap length c.in_ok-partitions-in-None.ensures, length-partitions c.deref-in-None.result.now c.args.settings.now.parts)
+    omega (arith, ap length c.in_ok-partitions-in-None.ensures, length-partitions_of c.deref-in-None.result.now c.args.settings.now.parts)
 
 pub build_partitions-requires-clause-few_keys : goal.build_partitions-requires-clause-few_keys
 build_partitions-requires-clause-few_keys c = λ part within.
     let inside : part < c.args.settings.now.parts =
-    omega (arith, ap length c.in_ok-partitions-in-None.ensures, length-partitions c.deref-in-None.result.now c.args.settings.now.parts) in
+    omega (arith, ap length c.in_ok-partitions-in-None.ensures, length-partitions_of c.deref-in-None.result.now c.args.settings.now.parts) in
     let all : length c.deref-in-None.result.now ≡ length c.args.keys.now =
-    ap length (c.deref-in-None.ensures.value ∙ c.in_ok-records.ensures) ∙ length-records_from 0 c.args.keys.now c.args.seed in
+    ap length (c.deref-in-None.ensures.value ∙ c.in_ok-records.ensures) ∙ length-records_of c.args.keys.now c.args.seed in
     rw c.in_ok-partitions-in-None.ensures
     (omega (arith, partition_fits c.deref-in-None.result.now c.args.settings.now.parts part inside, all, c.requires))
 

@@ -1,5 +1,5 @@
 use Rattle.std.proofs.Common.{rules}
-use Rattle.pth_top.proofs.RecordSteps.{one_more_record}
+use Rattle.pthash.specs.RecordLaws.{one_more_record}
 use Rattle.pth_top.proofs.records.records_of_keys.Goals as goal
 
 pub loop-place-preserved : goal.loop-place-preserved
