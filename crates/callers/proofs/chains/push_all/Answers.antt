@@ -16,7 +16,9 @@ loop-item-preserved c =
     let chains = c.loop-item.invariant.1 in
     let present = c.requires in
     let kept = c.in_default.ensures.kept tt in
-    let more = pushed-more old c.loop-item.pool c.push.new.self c.args.chain (take k records) (get_or records k NO_RECORD) present c.loop-item.invariant.0 kept in (
+    let was = c.loop-item.invariant.0 in
+    let item = get_or records k NO_RECORD in
+    let more = pushed-more old c.loop-item.pool c.push.new.self c.args.chain (take k records) item present was kept in (
       more ∙ ap (λ (xs : List Record). with_chain old c.args.chain (chain_at old c.args.chain ++ xs)) (sym longer),
       c.push.ensures.chains ∙ chains,
     )
