@@ -1,7 +1,9 @@
-ghost use Rattle.std.specs.Prelude.{◌≡◌, ◌≢◌, ℕ, ◌++◌, IfOk};
-ghost use Rattle.block_pool.specs.Chains.{chain_at};
+// Chains that are pushed, and one that is spilled.
+ghost use Rattle.std.specs.Prelude.{◌≡◌, ◌≢◌, ℕ, ◌<◌, [], ◌∷◌, ◌++◌, length, slice_index_or, IfOk, IfSome, IsTrue};
+ghost use Rattle.block_pool.specs.Chains.{chain_at, with_chain};
 
-use block_pool::{NoMemory, Pool, Record};
+use block_pool::{NoMemory, Pool, Push, Record};
+use std::alloc::Global;
 
 /// Moves the first block of the longest chain to the end of `spilled`, and gives the chain.
 pub fn spill(pool: &mut Pool, spilled: &mut Vec<Record>) -> Result<u32, NoMemory>
@@ -14,4 +16,51 @@ pub fn spill(pool: &mut Pool, spilled: &mut Vec<Record>) -> Result<u32, NoMemory
     spilled.extend_from_slice(pool.front(chain))?;
     pool.drop_front(chain);
     Ok(chain)
+}
+
+/// Three lists in the chains of a new pool, of which the longest has spilled its first block, and
+/// which that is; `None` where the pool is too small.
+pub fn three_chains(
+    alloc: Global,
+    first: &[Record],
+    second: &[Record],
+    third: &[Record],
+    spilled: &mut Vec<Record>,
+) -> Result<Option<(Pool, u32)>, NoMemory>
+    ensures order { IfOk result (λ made. IfSome made (λ it. spilled.new.items ++ chain_at it.0 it.1
+        ≡ spilled.old.items
+        ++ slice_index_or (first.now ∷ second.now ∷ third.now ∷ []) it.1 [])) }
+
+    ensures others { IfOk result (λ made. IfSome made (λ it. (other : ℕ) → other ≢ it.1
+        → chain_at it.0 other
+        ≡ slice_index_or (first.now ∷ second.now ∷ third.now ∷ []) other [])) }
+{
+    let mut pool = Pool::new(alloc, 16, 3)?;
+    if !push_all(&mut pool, 0, first) {
+        return Ok(None);
+    }
+    if !push_all(&mut pool, 1, second) {
+        return Ok(None);
+    }
+    if !push_all(&mut pool, 2, third) {
+        return Ok(None);
+    }
+    let chain = spill(&mut pool, spilled)?;
+    Ok(Some((pool, chain)))
+}
+
+// Pushes records to a chain while there is room, and tells whether all were kept.
+fn push_all(pool: &mut Pool, chain: u32, records: &[Record]) -> bool
+    requires { chain < length pool.old.chains }
+    ensures kept { IsTrue result
+        → pool.new ≡ with_chain pool.old chain (chain_at pool.old chain ++ records.now) }
+
+    ensures chains { length pool.new.chains ≡ length pool.old.chains }
+{
+    for item in records {
+        if let Push::Full(_) = pool.push(chain, *item) {
+            return false;
+        }
+    }
+    true
 }

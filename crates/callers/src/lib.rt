@@ -12,7 +12,7 @@ mod searches;
 
 pub use bits::set_bits;
 pub use buckets::first_size;
-pub use chains::spill;
+pub use chains::{spill, three_chains};
 pub use codes::dictionary;
 pub use files::small;
 pub use hashes::position;
