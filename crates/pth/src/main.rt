@@ -41,7 +41,8 @@ fn answer<R, F: Files, O: Sink>(
     out: &mut O,
 ) -> u8
     ensures want { IfErr args (λ e. error_kind e ≡ ErrorKind.OutOfMemory → result ≡ NO_MEMORY) }
-    ensures no_text { IfErr args (λ e. error_kind e ≢ ErrorKind.OutOfMemory → result ≢ NO_MEMORY →
+    ensures no_text { IfErr args (λ e. error_kind e ≢ ErrorKind.OutOfMemory →
+        result ≢ NO_MEMORY →
         EndsAs (refused (fault_at 0 COMMAND)) result
         (O.state out.old) (O.state out.new) (F.state files.old).told (F.state files.new).told) }
     ensures text { IsErr args → result ≡ NO_MEMORY →
