@@ -8,6 +8,8 @@ mod codes;
 mod files;
 mod hashes;
 mod lists;
+mod rising_round_trips;
+mod round_trips;
 mod searches;
 
 pub use bits::set_bits;
@@ -17,4 +19,6 @@ pub use codes::dictionary;
 pub use files::small;
 pub use hashes::position;
 pub use lists::last;
+pub use rising_round_trips::rising_read_again;
+pub use round_trips::value_read_again;
 pub use searches::pilots;
