@@ -124,7 +124,8 @@ module _ (next spare : List ℕ) (count made : ℕ) (chains : List Chain) (linke
           ]
 
     -- in one more block, as the code links it
-    pub extends_linked : (new : List ℕ) (b : ℕ) → (held_at chains c).len % 1024 ≡ 0 → x.tail ≡ b → ((d k : ℕ) → HasBlock chains d k → block_at next chains d k ≢ b)
+    pub extends_linked : (new : List ℕ) (b : ℕ) → (held_at chains c).len % 1024 ≡ 0 → x.tail ≡ b
+        → ((d k : ℕ) → HasBlock chains d k → block_at next chains d k ≢ b)
         → (held : Chain) → held ≡ held_at chains c → (held.len ≡ 0 → new ≡ next) → (0 < held.len → new ≡ set next held.tail b)
         → (held.len ≡ 0 → x.head ≡ b) → (0 < held.len → x.head ≡ held.head) → Extends next new chains c x b
     extends_linked new b full tail fresh held is first later head_first head_later =
@@ -141,7 +142,8 @@ module _ (next spare : List ℕ) (count made : ℕ) (chains : List Chain) (linke
     counted-begun full = let sums = sum_by-set block_count chains c x NO_CHAIN present in omega arith
 
 -- a link changes no count
-pub length-linked : (next new : List ℕ) (held : Chain) (b : ℕ) → (held.len ≡ 0 → new ≡ next) → (0 < held.len → new ≡ set next held.tail b) → length new ≡ length next
+pub length-linked : (next new : List ℕ) (held : Chain) (b : ℕ) → (held.len ≡ 0 → new ≡ next) → (0 < held.len → new ≡ set next held.tail b)
+    → length new ≡ length next
 length-linked next new held b first later =
     elim (cases_eq held.len 0) [
       | inl none ↦ ap length (first none)

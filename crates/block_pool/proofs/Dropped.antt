@@ -1,5 +1,6 @@
 -- What a chain without its first block leaves.
-use Rattle.std.proofs.Common.{◌≡◌, ◌≢◌, ◌⊎◌, ℕ, suc, ◌+◌, ◌-◌, ◌*◌, ◌/◌, ◌%◌, ◌<◌, List, [], length, map, drop, get_or, set, refl, sym, ap, ◌∙◌, subst, inl, inr, arith}
+use Rattle.std.proofs.Common.{◌≡◌, ◌≢◌, ◌⊎◌, ℕ, suc, ◌+◌, ◌-◌, ◌*◌, ◌/◌, ◌%◌, ◌<◌, List, []}
+use Rattle.std.proofs.Common.{length, map, drop, get_or, set, refl, sym, ap, ◌∙◌, subst, inl, inr, arith}
 use Rattle.std.proofs.lemmas.Bool.{cases_eq}
 use Rattle.std.proofs.lemmas.List.{get_or-set_same, get_or-set_other, get_or-map, length-set}
 use Rattle.std.specs.List.{sum_by}
@@ -188,7 +189,9 @@ module _ (next : List ℕ) (chains : List Chain) (c : ℕ) (x : Chain) (drops : 
           tails = tails old.tails;
         }
 
-  pub view-dropped : (records : List Record) → map (records_of records next) after ≡ set (map (records_of records next) chains) c (drop 1024 (get_or (map (records_of records next) chains) c []))
+  pub view-dropped : (records : List Record)
+      → map (records_of records next) after
+      ≡ set (map (records_of records next) chains) c (drop 1024 (get_or (map (records_of records next) chains) c []))
   unfolding records_of
   view-dropped records =
       let f : Chain → List Record = records_of records next in

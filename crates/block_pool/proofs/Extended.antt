@@ -1,5 +1,6 @@
 -- What one more record at the end of a chain leaves.
-use Rattle.std.proofs.Common.{◌≡◌, ◌≢◌, ◌⊎◌, ℕ, ◌+◌, ◌-◌, ◌*◌, ◌/◌, ◌%◌, ◌<◌, ◌≤◌, List, [], ◌∷◌, ◌++◌, length, map, get_or, set, sym, ap, ◌∙◌, subst, inl, inr, arith}
+use Rattle.std.proofs.Common.{◌≡◌, ◌≢◌, ◌⊎◌, ℕ, ◌+◌, ◌-◌, ◌*◌, ◌/◌, ◌%◌, ◌<◌, ◌≤◌, List, []}
+use Rattle.std.proofs.Common.{◌∷◌, ◌++◌, length, map, get_or, set, sym, ap, ◌∙◌, subst, inl, inr, arith}
 use Rattle.std.proofs.lemmas.Bool.{cases_eq}
 use Rattle.std.proofs.lemmas.List.{get_or-set_same, get_or-set_other, get_or-map}
 use Rattle.std.specs.List.{sum_by}
@@ -133,7 +134,8 @@ module _ (next new : List ℕ) (chains : List Chain) (c : ℕ) (x : Chain) (b : 
         ap (λ (block : ℕ). get_or written (block * 1024 + i % 1024) NO_RECORD) (extends.kept d (i / 1024) has)
         ∙ others place (omega arith) apart
 
-    pub view-extended : map (records_of written new) after ≡ set (map (records_of records next) chains) c (get_or (map (records_of records next) chains) c [] ++ item ∷ [])
+    pub view-extended : map (records_of written new) after
+        ≡ set (map (records_of records next) chains) c (get_or (map (records_of records next) chains) c [] ++ item ∷ [])
     unfolding records_of
     view-extended =
         let f : Chain → List Record = records_of records next in

@@ -1,5 +1,6 @@
 -- What the fields of a pool say of the chains that its users see.
-use Rattle.std.proofs.Common.{◌≡◌, ◌≢◌, ℕ, zero, suc, ◌+◌, ◌-◌, ◌*◌, ◌/◌, ◌%◌, ◌<◌, ◌≤◌, min, List, [], ◌∷◌, ◌++◌, length, map, take, drop, get_or, set, replicate, refl, sym, ap, ◌∙◌, arith}
+use Rattle.std.proofs.Common.{◌≡◌, ◌≢◌, ℕ, zero, suc, ◌+◌, ◌-◌, ◌*◌, ◌/◌, ◌%◌, ◌<◌, ◌≤◌, min, List, []}
+use Rattle.std.proofs.Common.{◌∷◌, ◌++◌, length, map, take, drop, get_or, set, replicate, refl, sym, ap, ◌∙◌, arith}
 use Rattle.std.proofs.lemmas.List.{length-map, get_or-map, get_or-set_same, get_or-set_other}
 use Rattle.std.proofs.lemmas.List.Sums.{sum_by-cons}
 use Rattle.std.specs.List.{sum_by}
@@ -29,7 +30,8 @@ held_sum records next (x ∷ xs) =
     ∙ ap (λ (n : ℕ). block_count x + n) (held_sum records next xs) ∙ sym (sum_by-cons block_count x xs)
 
 -- pools of the same parts are the same
-pool_same : (m n : ℕ) (xs ys : List (List Record)) → m ≡ n → xs ≡ ys → ◌≡◌ {A = PoolData} (record { blocks = m; chains = xs }) (record { blocks = n; chains = ys })
+pool_same : (m n : ℕ) (xs ys : List (List Record)) → m ≡ n → xs ≡ ys
+    → ◌≡◌ {A = PoolData} (record { blocks = m; chains = xs }) (record { blocks = n; chains = ys })
 pool_same m n xs ys same_blocks same_chains =
     let one : PoolData = record { blocks = n; chains = ys } in
     ap (λ (k : ℕ). let q : PoolData = record { blocks = k; chains = xs } in q) same_blocks
@@ -80,7 +82,8 @@ module _ (records : List Record) (next : List ℕ) (chains : List Chain) (p : Po
       → ((d k : ℕ) → HasBlock chains d k → block_at next chains d k < made)
       → ((i : ℕ) → i < made * 1024 → get_or grown i NO_RECORD ≡ get_or records i NO_RECORD)
       → at ≡ b * 1024 + (held_at chains c).len % 1024 → at < length grown
-      → ◌≡◌ {A = PoolData} (record { blocks = length new; chains = map (records_of (set grown at item) new) (set chains c x) }) (with_chain p c (chain_at p c ++ item ∷ []))
+      → ◌≡◌ {A = PoolData} (record { blocks = length new; chains = map (records_of (set grown at item) new) (set chains c x) })
+      (with_chain p c (chain_at p c ++ item ∷ []))
   view-pushed new c x b extends same_length grown at made item inside kept place room =
       let written : List Record = set grown at item in
       let others : (i : ℕ) → i < made * 1024 → i ≢ b * 1024 + (held_at chains c).len % 1024 → get_or written i NO_RECORD ≡ get_or records i NO_RECORD =
@@ -94,7 +97,8 @@ module _ (records : List Record) (next : List ℕ) (chains : List Chain) (p : Po
 
   -- a chain without its first block
   pub view-without : (c : ℕ) (x : Chain) → Drops next chains c x
-      → ◌≡◌ {A = PoolData} (record { blocks = length next; chains = map (records_of records next) (set chains c x) }) (with_chain p c (drop 1024 (chain_at p c)))
+      → ◌≡◌ {A = PoolData} (record { blocks = length next; chains = map (records_of records next) (set chains c x) })
+      (with_chain p c (drop 1024 (chain_at p c)))
   view-without c x drops =
       pool_same (length next) (length next) (map (records_of records next) (set chains c x))
       (set (map (records_of records next) chains) c (drop 1024 (get_or (map (records_of records next) chains) c []))) refl

@@ -152,8 +152,7 @@ impl Pool {
         if held.len == 0 {
             return;
         }
-        self.spare[self.spare_count as usize] = held.head;
-        self.spare_count += 1;
+        self.spare_count = give_back(&mut self.spare, self.spare_count, held.head);
         self.chains[chain as usize] = Chain {
             head: self.next[held.head as usize],
             tail: held.tail,
@@ -201,6 +200,17 @@ fn make_block(records: &mut Vec<Record>)
         ordinal: 0,
     };
     let _ = records.resize(records.len() + BLOCK_RECORDS as usize, empty);
+}
+
+// Puts a block behind the spare ones, and gives how many these are then.
+fn give_back(spare: &mut Vec<u32>, spare_count: u32, block: u32) -> u32
+    requires room { spare_count < length spare.old.items }
+    requires most { length spare.old.items ≤ MAX_BLOCKS }
+    ensures items { spare.new.items ≡ set spare.old.items spare_count block }
+    ensures count { result ≡ spare_count + 1 }
+{
+    spare[spare_count as usize] = block;
+    spare_count + 1
 }
 
 // Links a block to the last one of a chain, if that has one.

@@ -1,12 +1,18 @@
 // Chains that are pushed, and one that is spilled.
-ghost use Rattle.std.specs.Prelude.{◌≡◌, ◌≢◌, ℕ, ◌<◌, [], ◌∷◌, ◌++◌, length, slice_index_or, IfOk, IfSome, IsTrue};
-ghost use Rattle.block_pool.specs.Chains.{chain_at, with_chain};
+ghost use Rattle.std.specs.Prelude.{◌≡◌, ◌≢◌, ℕ, ◌+◌, ◌<◌, ◌≤◌, [], ◌∷◌, ◌++◌, length, drop, slice_index_or, All, IfOk, IfSome, IsNone, IsTrue, IsFalse};
+ghost use Rattle.block_pool.specs.Chains.{chain_at, with_chain, blocks_of, held_blocks};
 
-use block_pool::{NoMemory, Pool, Push, Record};
+use block_pool::{BLOCK_RECORDS, NoMemory, Pool, Push, Record};
 use std::alloc::Global;
 
 /// Moves the first block of the longest chain to the end of `spilled`, and gives the chain.
 pub fn spill(pool: &mut Pool, spilled: &mut Vec<Record>) -> Result<u32, NoMemory>
+    ensures inside { IfOk result (λ chain. chain < length pool.old.chains) }
+    ensures longest { IfOk result (λ chain. All
+        (λ records. length records ≤ length (chain_at pool.old chain)) pool.old.chains) }
+
+    ensures left { IfOk result (λ chain. chain_at pool.new chain
+        ≡ drop BLOCK_RECORDS (chain_at pool.old chain)) }
     ensures order { IfOk result (λ chain. spilled.new.items ++ chain_at pool.new chain
         ≡ spilled.old.items ++ chain_at pool.old chain) }
     ensures others { IfOk result (λ chain. (other : ℕ) → other ≢ chain
@@ -18,8 +24,8 @@ pub fn spill(pool: &mut Pool, spilled: &mut Vec<Record>) -> Result<u32, NoMemory
     Ok(chain)
 }
 
-/// Three lists in the chains of a new pool, of which the longest has spilled its first block, and
-/// which that is; `None` where the pool is too small.
+/// Three lists in the chains of a new pool of 16 blocks, of which the longest has spilled its first
+/// block, and which that is; `None` where they don't fit.
 pub fn three_chains(
     alloc: Global,
     first: &[Record],
@@ -27,6 +33,16 @@ pub fn three_chains(
     third: &[Record],
     spilled: &mut Vec<Record>,
 ) -> Result<Option<(Pool, u32)>, NoMemory>
+    ensures none { IfOk result (λ made. IsNone made
+        → 16 < blocks_of first.now + blocks_of second.now + blocks_of third.now) }
+
+    ensures longest { IfOk result (λ made. IfSome made (λ it. All (λ records. length records
+        ≤ length (slice_index_or (first.now ∷ second.now ∷ third.now ∷ []) it.1 []))
+        (first.now ∷ second.now ∷ third.now ∷ []))) }
+
+    ensures left { IfOk result (λ made. IfSome made (λ it. chain_at it.0 it.1 ≡ drop BLOCK_RECORDS
+        (slice_index_or (first.now ∷ second.now ∷ third.now ∷ []) it.1 []))) }
+
     ensures order { IfOk result (λ made. IfSome made (λ it. spilled.new.items ++ chain_at it.0 it.1
         ≡ spilled.old.items
         ++ slice_index_or (first.now ∷ second.now ∷ third.now ∷ []) it.1 [])) }
@@ -54,6 +70,9 @@ fn push_all(pool: &mut Pool, chain: u32, records: &[Record]) -> bool
     requires { chain < length pool.old.chains }
     ensures kept { IsTrue result
         → pool.new ≡ with_chain pool.old chain (chain_at pool.old chain ++ records.now) }
+
+    ensures full { IsFalse result → pool.old.blocks
+        < held_blocks (with_chain pool.old chain (chain_at pool.old chain ++ records.now)) }
 
     ensures chains { length pool.new.chains ≡ length pool.old.chains }
 {

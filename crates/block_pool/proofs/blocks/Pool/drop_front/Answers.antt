@@ -82,9 +82,10 @@ invariant_of-self c =
     let is : held ≡ held_at chains chain = get_or_read chains chain held present c.index-held.ensures NO_CHAIN in
     let x : Chain = record { head = c.index.result.now; tail = held.tail; len = c.saturating_sub.result } in
     let lost = drops s sound chain present held is c.if-held-eq0.false c.index.result.now c.saturating_sub.result c.index.ensures c.saturating_sub.ensures in
-    let first : held.head ≡ (held_at chains chain).head = ap (λ (ch : Chain). ch.head) is in
+    let spares = c.give_back-self-inside.ensures.items ∙ ap (λ (ch : Chain). set s.spare.items s.spare_count ch.head) is in
+    let more = c.give_back-self-inside.ensures.count in
     record {
-      linked = rw first (linked-dropped s.next.items chains chain x lost s.spare.items s.spare_count s.made sound.linked);
+      linked = rw spares (rw more (linked-dropped s.next.items chains chain x lost s.spare.items s.spare_count s.made sound.linked));
       stored = sound.stored;
       reserved = sound.reserved;
       some_chains = let some = sound.some_chains in let long = length-set chains chain x in omega arith;

@@ -26,7 +26,8 @@ returns-then-offset-gt0-clause-kept c =
     let x : Chain = record { head = held.head; tail = held.tail; len = held.len + 1 } in
     let longer : x.len ≡ (held_at chains chain).len + 1 = omega arith in
     let some = c.if-offset-gt0.true in
-    let extends = extends_within s.next.items s.spare.items s.spare_count s.made chains l chain x present longer (omega arith) (ap (λ (ch : Chain). ch.head) is) (ap (λ (ch : Chain). ch.tail) is) in
+    let extends = extends_within s.next.items s.spare.items s.spare_count s.made chains l chain x present longer (omega arith)
+    (ap (λ (ch : Chain). ch.head) is) (ap (λ (ch : Chain). ch.tail) is) in
     let tail : held.tail ≡ (held_at chains chain).tail = ap (λ (ch : Chain). ch.tail) is in
     let below = tail_inside s.next.items s.spare.items s.spare_count s.made chains l chain (omega arith) in
     let stored = sound.stored in
@@ -50,7 +51,8 @@ invariant_of-self c =
     let x : Chain = record { head = held.head; tail = held.tail; len = held.len + 1 } in
     let longer : x.len ≡ (held_at chains chain).len + 1 = omega arith in
     let some = c.if-offset-gt0.true in
-    let extends = extends_within s.next.items s.spare.items s.spare_count s.made chains l chain x present longer (omega arith) (ap (λ (ch : Chain). ch.head) is) (ap (λ (ch : Chain). ch.tail) is) in
+    let extends = extends_within s.next.items s.spare.items s.spare_count s.made chains l chain x present longer (omega arith)
+    (ap (λ (ch : Chain). ch.head) is) (ap (λ (ch : Chain). ch.tail) is) in
     let tail : held.tail ≡ (held_at chains chain).tail = ap (λ (ch : Chain). ch.tail) is in
     let counted = counted-within s.next.items s.spare.items s.spare_count s.made chains l chain x present longer (omega arith) in
     let before = l.counted in
@@ -58,7 +60,8 @@ invariant_of-self c =
     let at : ℕ = held.tail * 1024 + held.len % 1024 in
     let below = tail_inside s.next.items s.spare.items s.spare_count s.made chains l chain (omega arith) in
     record {
-      linked = linked-extended s.next.items s.next.items chains chain x (held_at chains chain).tail extends s.spare.items s.spare_count s.spare_count s.made s.made l refl
+      linked = linked-extended s.next.items s.next.items chains chain x (held_at chains chain).tail extends
+          s.spare.items s.spare_count s.spare_count s.made s.made l refl
           (omega arith) (omega arith) below (omega arith)
           (λ k h same. l.spare_apart chain ((held_at chains chain).len / 1024) k (omega arith) h
           (sym (extends.kept chain ((held_at chains chain).len / 1024) (omega arith)) ∙ extends.last ∙ sym same))
@@ -124,13 +127,15 @@ invariant_of-self-then-self-gt0 c =
     let block : ℕ = c.index-block.result.now in
     let more = c.if-self-gt0.true in
     let last : block ≡ get_or s.spare.items (s.spare_count - 1) 0 =
-    get_or_read s.spare.items (s.spare_count - 1) block (let counted = l.counted in let within = l.made_within in let room = l.room in omega arith) c.index-block.ensures 0 in
+    get_or_read s.spare.items (s.spare_count - 1) block
+    (let counted = l.counted in let within = l.made_within in let room = l.room in omega arith) c.index-block.ensures 0 in
     let fresh : (d k : ℕ) → HasBlock chains d k → block_at s.next.items chains d k ≢ block =
     λ d k h same. l.spare_apart d k (s.spare_count - 1) h (omega arith) (same ∙ last) in
     let x : Chain = c.extended.result in
     let longer : x.len ≡ (held_at chains chain).len + 1 = c.extended.ensures.len ∙ ap (λ (n : ℕ). n + 1) len in
     let new : List ℕ = c.link.new.next.items in
-    let extends = extends_linked s.next.items s.spare.items s.spare_count s.made chains l chain x present longer new block full c.extended.ensures.tail fresh held is
+    let extends = extends_linked s.next.items s.spare.items s.spare_count s.made chains l chain x present longer
+    new block full c.extended.ensures.tail fresh held is
     c.link.ensures.first c.link.ensures.later c.extended.ensures.first c.extended.ensures.later in
     let counted = counted-begun s.next.items s.spare.items s.spare_count s.made chains l chain x present longer full in
     let before = l.counted in
@@ -166,13 +171,15 @@ returns-then-self-gt0-clause-kept c =
     let block : ℕ = c.index-block.result.now in
     let more = c.if-self-gt0.true in
     let last : block ≡ get_or s.spare.items (s.spare_count - 1) 0 =
-    get_or_read s.spare.items (s.spare_count - 1) block (let counted = l.counted in let within = l.made_within in let room = l.room in omega arith) c.index-block.ensures 0 in
+    get_or_read s.spare.items (s.spare_count - 1) block
+    (let counted = l.counted in let within = l.made_within in let room = l.room in omega arith) c.index-block.ensures 0 in
     let fresh : (d k : ℕ) → HasBlock chains d k → block_at s.next.items chains d k ≢ block =
     λ d k h same. l.spare_apart d k (s.spare_count - 1) h (omega arith) (same ∙ last) in
     let x : Chain = c.extended.result in
     let longer : x.len ≡ (held_at chains chain).len + 1 = c.extended.ensures.len ∙ ap (λ (n : ℕ). n + 1) len in
     let new : List ℕ = c.link.new.next.items in
-    let extends = extends_linked s.next.items s.spare.items s.spare_count s.made chains l chain x present longer new block full c.extended.ensures.tail fresh held is
+    let extends = extends_linked s.next.items s.spare.items s.spare_count s.made chains l chain x present longer
+    new block full c.extended.ensures.tail fresh held is
     c.link.ensures.first c.link.ensures.later c.extended.ensures.first c.extended.ensures.later in
     let below = l.spare_inside (s.spare_count - 1) (omega arith) in
     let stored = sound.stored in
@@ -238,7 +245,8 @@ invariant_of-self-then-block-len c =
     let x : Chain = c.extended-then-block-len.result in
     let longer : x.len ≡ (held_at chains chain).len + 1 = c.extended-then-block-len.ensures.len ∙ ap (λ (n : ℕ). n + 1) len in
     let new : List ℕ = c.link-then-block-len.new.next.items in
-    let extends = extends_linked s.next.items s.spare.items s.spare_count s.made chains l chain x present longer new block full c.extended-then-block-len.ensures.tail fresh held is
+    let extends = extends_linked s.next.items s.spare.items s.spare_count s.made chains l chain x present longer
+    new block full c.extended-then-block-len.ensures.tail fresh held is
     c.link-then-block-len.ensures.first c.link-then-block-len.ensures.later c.extended-then-block-len.ensures.first c.extended-then-block-len.ensures.later in
     let grown : List Record = c.make_block.new.records.items in
     let items : grown ≡ s.records.items ++ replicate 1024 NO_RECORD = c.make_block.ensures.items in
@@ -282,7 +290,8 @@ returns-then-block-len-clause-kept c =
     let x : Chain = c.extended-then-block-len.result in
     let longer : x.len ≡ (held_at chains chain).len + 1 = c.extended-then-block-len.ensures.len ∙ ap (λ (n : ℕ). n + 1) len in
     let new : List ℕ = c.link-then-block-len.new.next.items in
-    let extends = extends_linked s.next.items s.spare.items s.spare_count s.made chains l chain x present longer new block full c.extended-then-block-len.ensures.tail fresh held is
+    let extends = extends_linked s.next.items s.spare.items s.spare_count s.made chains l chain x present longer
+    new block full c.extended-then-block-len.ensures.tail fresh held is
     c.link-then-block-len.ensures.first c.link-then-block-len.ensures.later c.extended-then-block-len.ensures.first c.extended-then-block-len.ensures.later in
     let grown : List Record = c.make_block.new.records.items in
     let items : grown ≡ s.records.items ++ replicate 1024 NO_RECORD = c.make_block.ensures.items in
