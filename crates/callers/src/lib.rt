@@ -12,10 +12,11 @@ mod lists;
 mod rising_round_trips;
 mod round_trips;
 mod searches;
+mod spills;
 
 pub use bits::set_bits;
 pub use buckets::first_size;
-pub use chains::{spill, three_chains};
+pub use chains::three_chains;
 pub use codes::dictionary;
 pub use divisors::remainders;
 pub use files::small;
@@ -24,3 +25,4 @@ pub use lists::last;
 pub use rising_round_trips::rising_read_again;
 pub use round_trips::value_read_again;
 pub use searches::pilots;
+pub use spills::spill;

@@ -2,7 +2,7 @@ use Rattle.std.proofs.Common.{◌≡◌, List, [], ◌++◌, take, drop, ap, ◌
 use Rattle.std.proofs.lemmas.List.{get_or-set_same, take-append-drop}
 use Rattle.pthash.specs.declared.Record.{Record}
 use Rattle.block_pool.specs.Chains.{PoolData, chain_at}
-use Rattle.callers.proofs.chains.spill.Goals as goal
+use Rattle.callers.proofs.spills.spill.Goals as goal
 
 pub returns-clause-order : goal.returns-clause-order
 returns-clause-order c =
