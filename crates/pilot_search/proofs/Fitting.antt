@@ -1,5 +1,6 @@
 -- Positions that fit, one after another.
-use Rattle.std.proofs.Common.{◌≡◌, ℕ, ◌+◌, ◌-◌, ◌<◌, ◌≤◌, arith, Bool, true, false, ◌&&◌, ◌||◌, List, [], ◌∷◌, ◌++◌, length, take, drop, get_or, refl, sym, ap, ◌∙◌, subst, ⊎_elim}
+use Rattle.std.proofs.Common.{◌≡◌, ℕ, ◌+◌, ◌-◌, ◌<◌, ◌≤◌, arith, Bool, true, false, ◌&&◌, ◌||◌, List}
+use Rattle.std.proofs.Common.{[], ◌∷◌, ◌++◌, length, take, drop, get_or, refl, sym, ap, ◌∙◌, subst, ⊎_elim}
 use Rattle.std.specs.Prelude.{not, nat_eq, bit_xor, ◌%◌}
 use Rattle.std.specs.List.{list_all}
 use Rattle.std.proofs.Math.Bool.{and-false}
@@ -50,7 +51,8 @@ fits-push taken ps p =
     ∙ paired (list_all (λ q. not (taken q)) ps) (taken p) (is_distinct ps) (is_among ps p)
 
 -- the next position fits where it is not taken and is none of the earlier ones
-pub fits_more : (taken : ℕ → Bool) (ps : List ℕ) (i : ℕ) → i < length ps → fits taken (take (i + 1) ps) ≡ (fits taken (take i ps) && not (taken (get_or ps i 0) || is_among (take i ps) (get_or ps i 0)))
+pub fits_more : (taken : ℕ → Bool) (ps : List ℕ) (i : ℕ) → i < length ps →
+    fits taken (take (i + 1) ps) ≡ (fits taken (take i ps) && not (taken (get_or ps i 0) || is_among (take i ps) (get_or ps i 0)))
 fits_more taken ps i in_range = ap (fits taken) (take_more ps i 0 in_range) ∙ fits-push taken (take i ps) (get_or ps i 0)
 
 -- a front of distinct numbers is distinct
@@ -72,12 +74,15 @@ fits_part taken ps qs fit =
 pub fits_none : (taken : ℕ → Bool) (ps : List ℕ) (n : ℕ) → fits taken (take n ps) ≡ false → fits taken ps ≡ false
 fits_none taken ps n fails =
     elim (fits taken ps) as (λ b. fits taken ps ≡ b → fits taken ps ≡ false) [
-      | true ↦ λ fit. absurd (let yes : fits taken (take n ps) ≡ true = fits_part taken (take n ps) (drop n ps) (ap (fits taken) (take-append-drop n ps) ∙ fit) in cc)
+      | true ↦ λ fit.
+          let yes : fits taken (take n ps) ≡ true = fits_part taken (take n ps) (drop n ps) (ap (fits taken) (take-append-drop n ps) ∙ fit) in
+          absurd cc
       | false ↦ λ e. e
     ] refl
 
 -- positions don't fit where one of them is taken or is among the earlier ones
-pub fails_at : (taken : ℕ → Bool) (ps : List ℕ) (i p : ℕ) → i < length ps → get_or ps i 0 ≡ p → (taken p || is_among (take i ps) p) ≡ true → fits taken ps ≡ false
+pub fails_at : (taken : ℕ → Bool) (ps : List ℕ) (i p : ℕ) → i < length ps → get_or ps i 0 ≡ p → (taken p || is_among (take i ps) p) ≡ true →
+    fits taken ps ≡ false
 fails_at taken ps i p in_range here clash =
     let P : ℕ → Type 0 = λ q. (taken q || is_among (take i ps) q) ≡ true in
     let there : (taken (get_or ps i 0) || is_among (take i ps) (get_or ps i 0)) ≡ true = subst P (sym here) clash in
@@ -85,14 +90,17 @@ fails_at taken ps i p in_range here clash =
     (fits_more taken ps i in_range ∙ ap (λ b. fits taken (take i ps) && not b) there ∙ and-false (fits taken (take i ps)))
 
 -- the next position fits too
-pub fits_at : (taken : ℕ → Bool) (ps : List ℕ) (i p : ℕ) → i < length ps → get_or ps i 0 ≡ p → fits taken (take i ps) ≡ true → taken p ≡ false → is_among (take i ps) p ≡ false → fits taken (take (i + 1) ps) ≡ true
+pub fits_at : (taken : ℕ → Bool) (ps : List ℕ) (i p : ℕ) → i < length ps → get_or ps i 0 ≡ p → fits taken (take i ps) ≡ true → taken p ≡ false →
+    is_among (take i ps) p ≡ false → fits taken (take (i + 1) ps) ≡ true
 fits_at taken ps i p in_range here fit free new =
     let P : ℕ → Type 0 = λ q. (taken q || is_among (take i ps) q) ≡ false in
-    let there : (taken (get_or ps i 0) || is_among (take i ps) (get_or ps i 0)) ≡ false = subst P (sym here) (or_from (taken p) (is_among (take i ps) p) free new) in
+    let there : (taken (get_or ps i 0) || is_among (take i ps) (get_or ps i 0)) ≡ false =
+    subst P (sym here) (or_from (taken p) (is_among (take i ps) p) free new) in
     fits_more taken ps i in_range ∙ ap (λ b. fits taken (take i ps) && not b) there ∙ ap (λ b. b && true) fit
 
 -- one more number is distinct from the others
-pub distinct_at : (xs : List ℕ) (i x : ℕ) → i < length xs → get_or xs i 0 ≡ x → is_distinct (take i xs) ≡ true → is_among (take i xs) x ≡ false → is_distinct (take (i + 1) xs) ≡ true
+pub distinct_at : (xs : List ℕ) (i x : ℕ) → i < length xs → get_or xs i 0 ≡ x → is_distinct (take i xs) ≡ true → is_among (take i xs) x ≡ false →
+    is_distinct (take (i + 1) xs) ≡ true
 distinct_at xs i x in_range here distinct new =
     ap is_distinct (take_more xs i 0 in_range ∙ ap (λ y. take i xs ++ y ∷ []) here) ∙ is_distinct-push (take i xs) x ∙ rw (distinct, new) refl
 
@@ -100,8 +108,11 @@ distinct_at xs i x in_range here distinct new =
 pub repeats_at : (xs : List ℕ) (i x : ℕ) → i < length xs → get_or xs i 0 ≡ x → is_among (take i xs) x ≡ true → is_distinct xs ≡ false
 repeats_at xs i x in_range here again =
     let front : is_distinct (take (i + 1) xs) ≡ false =
-    ap is_distinct (take_more xs i 0 in_range ∙ ap (λ y. take i xs ++ y ∷ []) here) ∙ is_distinct-push (take i xs) x ∙ ap (λ b. is_distinct (take i xs) && not b) again ∙ and-false (is_distinct (take i xs)) in
-    false_from_ne_true (is_distinct xs) (λ distinct. both_ways (is_distinct (take (i + 1) xs)) front (is_distinct_part (take (i + 1) xs) (drop (i + 1) xs) (ap is_distinct (take-append-drop (i + 1) xs) ∙ distinct)))
+    ap is_distinct (take_more xs i 0 in_range ∙ ap (λ y. take i xs ++ y ∷ []) here) ∙ is_distinct-push (take i xs) x
+    ∙ ap (λ b. is_distinct (take i xs) && not b) again ∙ and-false (is_distinct (take i xs)) in
+    false_from_ne_true (is_distinct xs) (λ distinct.
+    both_ways (is_distinct (take (i + 1) xs)) front
+    (is_distinct_part (take (i + 1) xs) (drop (i + 1) xs) (ap is_distinct (take-append-drop (i + 1) xs) ∙ distinct)))
 
 -- what is not so is so
 pub known_from_not : (b : Bool) → not b ≡ false → b ≡ true
@@ -114,7 +125,8 @@ distinct_one [] = refl
 distinct_one (x ∷ xs) = refl
 
 -- one more position is free
-pub free_at : (taken : ℕ → Bool) (ps : List ℕ) (i p : ℕ) → i < length ps → get_or ps i 0 ≡ p → list_all (λ q. not (taken q)) (take i ps) ≡ true → taken p ≡ false → list_all (λ q. not (taken q)) (take (i + 1) ps) ≡ true
+pub free_at : (taken : ℕ → Bool) (ps : List ℕ) (i p : ℕ) → i < length ps → get_or ps i 0 ≡ p → list_all (λ q. not (taken q)) (take i ps) ≡ true →
+    taken p ≡ false → list_all (λ q. not (taken q)) (take (i + 1) ps) ≡ true
 free_at taken ps i p in_range here free new =
     ap (list_all (λ q. not (taken q))) (take_more ps i 0 in_range ∙ ap (λ y. take i ps ++ y ∷ []) here)
     ∙ list_all-append (λ q. not (taken q)) (take i ps) (p ∷ []) ∙ rw (free, new) refl
@@ -123,10 +135,12 @@ free_at taken ps i p in_range here free new =
 pub taken_at : (taken : ℕ → Bool) (ps : List ℕ) (i p : ℕ) → i < length ps → get_or ps i 0 ≡ p → taken p ≡ true → list_all (λ q. not (taken q)) ps ≡ false
 taken_at taken ps i p in_range here known =
     false_from_ne_true (list_all (λ q. not (taken q)) ps) (λ free.
-    both_ways (taken (get_or ps i 0)) (not-true (taken (get_or ps i 0)) (AllPass-from_list_all (λ q. not (taken q)) ps free i 0 in_range)) (ap taken here ∙ known))
+    both_ways (taken (get_or ps i 0)) (not-true (taken (get_or ps i 0)) (AllPass-from_list_all (λ q. not (taken q)) ps free i 0 in_range))
+    (ap taken here ∙ known))
 
 -- the position of one member
-pub get_or-positions_under : (hash size : ℕ) (members : List ℕ) (i : ℕ) → i < length members → get_or (positions_under hash size members) i 0 ≡ bit_xor (get_or members i 0) hash % size
+pub get_or-positions_under : (hash size : ℕ) (members : List ℕ) (i : ℕ) → i < length members →
+    get_or (positions_under hash size members) i 0 ≡ bit_xor (get_or members i 0) hash % size
 get_or-positions_under hash size members i in_range = get_or-map (λ b. bit_xor b hash % size) members i 0 0 in_range
 
 -- one position for each member
@@ -138,14 +152,18 @@ taken_fails : (taken : ℕ → Bool) (hash size : ℕ) (members : List ℕ) (i :
     → fits taken (positions_under hash size members) ≡ false
 taken_fails taken hash size members i in_range known =
     ap (λ b. b && is_distinct (positions_under hash size members))
-    (taken_at taken (positions_under hash size members) i (bit_xor (get_or members i 0) hash % size) (omega (arith, length-positions_under hash size members)) (get_or-positions_under hash size members i in_range) known)
+    (taken_at taken (positions_under hash size members) i (bit_xor (get_or members i 0) hash % size)
+    (omega (arith, length-positions_under hash size members)) (get_or-positions_under hash size members i in_range) known)
 
 -- a pilot under which the first or the last member has a taken position doesn't fit
-pub blocked_fails : (table : Table) (hash : ℕ) (members : List ℕ) → 1 ≤ length members → IsBlocked members table hash → fits (contains table.taken) (positions_under hash table.size members) ≡ false
+pub blocked_fails : (table : Table) (hash : ℕ) (members : List ℕ) → 1 ≤ length members → IsBlocked members table hash →
+    fits (contains table.taken) (positions_under hash table.size members) ≡ false
 blocked_fails table hash members some blocked =
-    elim (contains table.taken (bit_xor (get_or members 0 0) hash % table.size)) as (λ b. contains table.taken (bit_xor (get_or members 0 0) hash % table.size) ≡ b → fits (contains table.taken) (positions_under hash table.size members) ≡ false) [
+    let place : ℕ → ℕ = λ i. bit_xor (get_or members i 0) hash % table.size in
+    let Fails : Type 0 = fits (contains table.taken) (positions_under hash table.size members) ≡ false in
+    elim (contains table.taken (place 0)) as (λ b. contains table.taken (place 0) ≡ b → Fails) [
       | true ↦ λ first. taken_fails (contains table.taken) hash table.size members 0 (omega arith) first
       | false ↦ λ free.
           taken_fails (contains table.taken) hash table.size members (length members - 1) (omega arith)
-          (ap (λ b. b || contains table.taken (bit_xor (get_or members (length members - 1) 0) hash % table.size)) (sym free) ∙ blocked)
+          (ap (λ b. b || contains table.taken (place (length members - 1))) (sym free) ∙ blocked)
     ] refl

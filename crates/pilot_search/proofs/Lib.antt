@@ -3,3 +3,4 @@ pub mod MarkLemmas
 pub mod BucketCounts
 pub mod Fitting
 pub mod Steps
+pub mod CallerLemmas

@@ -1,5 +1,6 @@
 -- How marks are set and cleared.
-use Rattle.std.proofs.Common.{◌≡◌, ◌≢◌, ℕ, ◌+◌, ◌-◌, ◌*◌, ◌/◌, ◌%◌, ◌^◌, ◌<◌, ◌≤◌, Bool, true, false, ◌||◌, List, [], ◌∷◌, ◌++◌, length, take, drop, get_or, refl, sym, ap, ◌∙◌, subst, arith, ⊎_elim}
+use Rattle.std.proofs.Common.{◌≡◌, ◌≢◌, ℕ, ◌+◌, ◌-◌, ◌*◌, ◌/◌, ◌%◌, ◌^◌, ◌<◌, ◌≤◌, Bool, true, false, ◌||◌}
+use Rattle.std.proofs.Common.{List, [], ◌∷◌, ◌++◌, length, take, drop, get_or, refl, sym, ap, ◌∙◌, subst, arith, ⊎_elim}
 use Rattle.std.specs.Prelude.{nat_eq, map, replicate, slice_set, bit_and, bit_or}
 use Rattle.std.specs.List.{list_any}
 use Rattle.std.proofs.lemmas.Bool.{cases_eq, cases_lt, eq-eqb, ne_eqb, or_parts, or_from, or_left, both_ways, false_from_ne_true}
@@ -61,9 +62,12 @@ marked_more marks numbers x so_far =
           (λ (other : x ≡ y → ⊥). is_set-set_stays marks 0 (mark_of n y) bit (so_far.marked y (among_more numbers x y known other)))
           (cases_eq x y);
       only = λ w none.
-          let none_here : is_among (map (word_of_mark n) (numbers ++ x ∷ [])) w ≡ false = ap (λ k. is_among (map (word_of_mark k) (numbers ++ x ∷ [])) w) (sym same) ∙ none in
-          let split : is_among (map (word_of_mark n) (numbers ++ x ∷ [])) w ≡ (is_among (map (word_of_mark n) numbers) w || (nat_eq (word_of_mark n x) w || false)) =
-          ap (λ ws. is_among ws w) (map-append (word_of_mark n) numbers (x ∷ [])) ∙ list_any-append (λ z. nat_eq z w) (map (word_of_mark n) numbers) (word_of_mark n x ∷ []) in
+          let none_here : is_among (map (word_of_mark n) (numbers ++ x ∷ [])) w ≡ false =
+          ap (λ k. is_among (map (word_of_mark k) (numbers ++ x ∷ [])) w) (sym same) ∙ none in
+          let split : is_among (map (word_of_mark n) (numbers ++ x ∷ [])) w ≡
+          (is_among (map (word_of_mark n) numbers) w || (nat_eq (word_of_mark n x) w || false)) =
+          ap (λ ws. is_among ws w) (map-append (word_of_mark n) numbers (x ∷ []))
+          ∙ list_any-append (λ z. nat_eq z w) (map (word_of_mark n) numbers) (word_of_mark n x ∷ []) in
           let parts = or_parts (is_among (map (word_of_mark n) numbers) w) (nat_eq (word_of_mark n x) w || false) (sym split ∙ none_here) in
           let last = or_parts (nat_eq (word_of_mark n x) w) false parts.1 in
           let apart : w ≢ word_of 0 bit = λ same_word. both_ways (nat_eq (word_of_mark n x) w) last.0 (eq-eqb (word_of_mark n x) w (sym (same_word ∙ e))) in
@@ -71,7 +75,8 @@ marked_more marks numbers x so_far =
     }
 
 -- a number whose bit is clear is none of those that are marked
-pub new_unless_marked : (marks numbers : List ℕ) (x : ℕ) → AreMarks marks numbers → is_set marks 0 (mark_of (length marks) x) ≡ false → is_among numbers x ≡ false
+pub new_unless_marked : (marks numbers : List ℕ) (x : ℕ) → AreMarks marks numbers → is_set marks 0 (mark_of (length marks) x) ≡ false →
+    is_among numbers x ≡ false
 new_unless_marked marks numbers x so_far clear =
     false_from_ne_true (is_among numbers x) (λ known. both_ways (is_set marks 0 (mark_of (length marks) x)) clear (so_far.marked x known))
 
@@ -81,7 +86,8 @@ pub record IsCleared (words : ℕ) (numbers marks : List ℕ) : Type 0 where
   pub only : (w : ℕ) → is_among (map (word_of_mark words) numbers) w ≡ false → get_or marks w 0 ≡ 0
 
 -- one more word is cleared
-pub cleared_more : (words : ℕ) (x : ℕ) (numbers marks : List ℕ) → IsCleared words (x ∷ numbers) marks → 1 ≤ words → IsCleared words numbers (slice_set marks (word_of_mark words x) 0)
+pub cleared_more : (words : ℕ) (x : ℕ) (numbers marks : List ℕ) → IsCleared words (x ∷ numbers) marks → 1 ≤ words →
+    IsCleared words numbers (slice_set marks (word_of_mark words x) 0)
 cleared_more words x numbers marks so_far some =
     record {
       count = length-set marks (word_of_mark words x) 0 ∙ so_far.count;
@@ -92,7 +98,8 @@ cleared_more words x numbers marks so_far some =
           ∙ get_or-set_same marks (word_of_mark words x) 0 0 (omega (arith, so_far.count, mark_within words x some)))
           (λ (other : w ≢ word_of_mark words x).
           get_or-set_other marks (word_of_mark words x) w 0 0 other
-          ∙ so_far.only w (or_from (nat_eq (word_of_mark words x) w) (is_among (map (word_of_mark words) numbers) w) (ne_eqb (word_of_mark words x) w (λ e. other (sym e))) none))
+          ∙ so_far.only w (or_from (nat_eq (word_of_mark words x) w) (is_among (map (word_of_mark words) numbers) w)
+          (ne_eqb (word_of_mark words x) w (λ e. other (sym e))) none))
           (cases_eq w (word_of_mark words x));
     }
 

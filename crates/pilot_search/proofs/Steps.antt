@@ -1,8 +1,10 @@
 -- How a search goes from one bucket to the next.
-use Rattle.std.proofs.Common.{◌≡◌, ◌≢◌, Result, Bool, refl, ℕ, suc, ◌+◌, ◌-◌, ◌<◌, ◌≤◌, List, [], ◌∷◌, ◌++◌, length, take, Some, None, Ok, Err, Result, sym, ap, ◌∙◌, add-one, arith, ⊎_elim}
+use Rattle.std.proofs.Common.{◌≡◌, ◌≢◌, Result, Bool, refl, ℕ, suc, ◌+◌, ◌-◌, ◌<◌, ◌≤◌, List, [], ◌∷◌}
+use Rattle.std.proofs.Common.{◌++◌, length, take, Some, None, Ok, Err, Result, sym, ap, ◌∙◌, add-one, arith, ⊎_elim}
 use Rattle.std.specs.Prelude.{slice_set, slice_index, replicate}
 use Rattle.std.proofs.lemmas.Bool.{cases_lt}
-use Rattle.std.proofs.lemmas.List.{length-take, get_or-take, get_or-append_right, take_more_set, take_all, length-set, length-replicate, get_or-set_other, get_or-replicate, get_or_past}
+use Rattle.std.proofs.lemmas.List.{length-take, get_or-take, get_or-append_right, take_more_set, take_all}
+use Rattle.std.proofs.lemmas.List.{length-set, length-replicate, get_or-set_other, get_or-replicate, get_or_past}
 use Rattle.std.specs.FinSet.{empty, contains, union, from_list}
 use Rattle.pthash.specs.Order.{bucket_at}
 use Rattle.pthash.specs.PrefixLaws.{IsEarlier, HasStep, length-pilots, prefix_of-step, prefix_of-earlier}
@@ -12,7 +14,8 @@ use Rattle.pilot_search.specs.Table.{Table}
 use Rattle.pilot_search.specs.Outcome.{IsSearchedTo, AreFirstPilots}
 
 -- before any bucket
-pub started : (plan : SearchPlan) (pilots : List ℕ) (table : Table) → pilots ≡ replicate (length plan.buckets) 0 → table.taken ≡ empty → table.size ≡ plan.size → IsSearchedTo plan 0 pilots table
+pub started : (plan : SearchPlan) (pilots : List ℕ) (table : Table) → pilots ≡ replicate (length plan.buckets) 0 → table.taken ≡ empty →
+    table.size ≡ plan.size → IsSearchedTo plan 0 pilots table
 unfolding prefix_of
 started plan pilots table zeros none size = record {
   state = ap (λ t. Ok (record { pilots = []; taken = t })) (sym none);
@@ -21,7 +24,8 @@ started plan pilots table zeros none size = record {
       ap (λ ps. slice_index ps rank) zeros
       ∙ ⊎_elim
       (λ (lower : rank < length plan.buckets). get_or-replicate (length plan.buckets) rank 0 0 lower)
-      (λ (higher : length plan.buckets ≤ rank). get_or_past (replicate (length plan.buckets) 0) rank 0 (omega (arith, length-replicate {A = ℕ} (length plan.buckets) 0)))
+      (λ (higher : length plan.buckets ≤ rank). get_or_past (replicate (length plan.buckets) 0) rank 0
+      (omega (arith, length-replicate {A = ℕ} (length plan.buckets) 0)))
       (cases_lt rank (length plan.buckets));
   size = size;
 }
@@ -52,12 +56,14 @@ pub placed_more : (plan : SearchPlan) (rank k : ℕ) (pilots : List ℕ) (table 
 unfolding prefix_of
 placed_more plan rank k pilots table after known so_far found size gained =
     let in_range : rank < length pilots = omega (arith, so_far.one_number_a_rank) in
+    let places : List ℕ = positions_of plan.seed plan.size (bucket_at plan.buckets rank).members k in
     record {
       state =
           rw add-one
           (ap (after_bucket plan rank) so_far.state
           ∙ ap (with_pilot plan rank (record { pilots = take rank pilots; taken = table.taken })) found
-          ∙ ap (λ ps. Ok (record { pilots = ps; taken = union table.taken (from_list (positions_of plan.seed plan.size (bucket_at plan.buckets rank).members k)) })) (sym (ap (λ n. take n (slice_set pilots rank k)) (sym (add-one rank)) ∙ take_more_set pilots rank k in_range))
+          ∙ ap (λ ps. Ok (record { pilots = ps; taken = union table.taken (from_list places) }))
+          (sym (ap (λ n. take n (slice_set pilots rank k)) (sym (add-one rank)) ∙ take_more_set pilots rank k in_range))
           ∙ ap (λ t. Ok (record { pilots = take (suc rank) (slice_set pilots rank k); taken = t })) (sym gained));
       one_number_a_rank = length-set pilots rank k ∙ so_far.one_number_a_rank;
       no_pilot_yet = λ later beyond.
@@ -82,7 +88,8 @@ done_within plan t pilots table so_far =
     omega (arith, count, length-take t pilots, so_far.one_number_a_rank)
 
 -- the pilot of the next bucket, where a longer prefix of the search is known
-pub known_pilot : (plan : SearchPlan) (rank : ℕ) (pilots known : List ℕ) (table : Table) → IsSearchedTo plan rank pilots table → AreFirstPilots plan known → rank < length known
+pub known_pilot : (plan : SearchPlan) (rank : ℕ) (pilots known : List ℕ) (table : Table) → IsSearchedTo plan rank pilots table →
+    AreFirstPilots plan known → rank < length known
     → pilot_of plan.seed plan.size plan.limit (contains table.taken) (bucket_at plan.buckets rank).members ≡ Some (slice_index known rank)
 known_pilot plan rank pilots known table so_far theirs in_range =
     let here : SearchState = record { pilots = take rank pilots; taken = table.taken } in
@@ -96,7 +103,8 @@ known_pilot plan rank pilots known table so_far theirs in_range =
     let first : slice_index (step.state.pilots ++ step.pilot ∷ []) rank ≡ step.pilot = pilot_at_end step.state.pilots step.pilot rank count in
     let last : slice_index (take (suc rank) known) rank ≡ slice_index known rank = get_or-take (suc rank) known rank 0 (omega arith) in
     let is : step.pilot ≡ slice_index known rank = sym first ∙ ap (λ ps. slice_index ps rank) gives ∙ last in
-    ap (λ (s : SearchState). pilot_of plan.seed plan.size plan.limit (contains s.taken) (bucket_at plan.buckets rank).members) (sym same) ∙ step.found ∙ ap Some is
+    ap (λ (s : SearchState). pilot_of plan.seed plan.size plan.limit (contains s.taken) (bucket_at plan.buckets rank).members) (sym same)
+    ∙ step.found ∙ ap Some is
   where
     ok_same : (s t : SearchState) (r : Result SearchState ℕ) → r ≡ Ok s → r ≡ Ok t → s ≡ t
     ok_same s t r first second = cc
@@ -107,6 +115,7 @@ known_pilot plan rank pilots known table so_far theirs in_range =
         get_or-append_right ps (k ∷ []) t t 0 known (omega arith) ∙ rw none refl
 
 -- after all buckets
-pub finished : (plan : SearchPlan) (pilots : List ℕ) (table : Table) → IsSearchedTo plan (length plan.buckets) pilots table → search_of plan ≡ Ok (record { pilots = pilots; taken = table.taken })
+pub finished : (plan : SearchPlan) (pilots : List ℕ) (table : Table) → IsSearchedTo plan (length plan.buckets) pilots table →
+    search_of plan ≡ Ok (record { pilots = pilots; taken = table.taken })
 finished plan pilots table so_far =
     so_far.state ∙ ap (λ ps. Ok (record { pilots = ps; taken = table.taken })) (take_all (length plan.buckets) pilots (omega (arith, so_far.one_number_a_rank)))

@@ -27,7 +27,8 @@ is_set-set_bit words p q in_range =
     (cases_eq q p)
 
 -- a table that gains a position
-pub set_of-set_bit : (words : List ℕ) (size p : ℕ) → p < size → size < 64 * length words → set_of size (is_set (set_bit words 0 p) 0) ≡ insert (set_of size (is_set words 0)) p
+pub set_of-set_bit : (words : List ℕ) (size p : ℕ) → p < size → size < 64 * length words →
+    set_of size (is_set (set_bit words 0 p) 0) ≡ insert (set_of size (is_set words 0)) p
 set_of-set_bit words size p below room =
     let e : word_of 0 p ≡ word_of 0 p = refl in
     let in_range : word_of 0 p < length words = omega (arith, e) in

@@ -1,5 +1,10 @@
+ghost use Rattle.std.specs.Prelude.{◌≡◌, ◌≤◌, length, IfOk};
+ghost use Rattle.pthash.specs.Order.{most_members};
+ghost use Rattle.pilot_search.specs.Outcome.{IsPlacedSoFar, IsPlaced};
+
 use super::*;
-use bucket_map::{Map, Record, ordered_buckets};
+use bucket_map::{Map, NoMemory, Record, ordered_buckets};
+use std::alloc::Global;
 use std::test::Fail;
 
 // The seed at which pilot 0 has the hash 0, so that a position is a second hash modulo the size.
@@ -138,5 +143,67 @@ fn the_positions_of_a_bucket_are_spread(rt: HostRuntime) -> Result<(), Fail> {
     assert!(rt; 0 < plan.ranks());
     assert!(rt; spread(&plan, 0, 0, &mut scratch));
     assert_eq!(rt; scratch.positions(), [0, 1].as_slice());
+    Ok(())
+}
+
+// A new state that has adopted so many pilots of a search.
+fn adopted(
+    alloc: Global,
+    plan: &Plan,
+    placed: &Placed,
+    count: usize,
+    scratch: &mut Scratch,
+) -> Result<Placed, NoMemory>
+    requires placed { IsPlaced plan.now placed.now }
+    requires count { count ≤ length placed.now.pilots.items }
+    requires room { most_members plan.now.buckets ≤ scratch.old.members }
+    ensures done { IfOk result (λ state. state.done ≡ count) }
+    ensures placed { IfOk result (λ state. IsPlacedSoFar plan.now state) }
+    ensures room { scratch.new.members ≡ scratch.old.members }
+{
+    let state = Placed::new(alloc, plan)?;
+    let pilots = placed.pilots.as_slice();
+    Ok(adopt(plan, state, &pilots[..count], scratch))
+}
+
+#[test]
+fn a_search_goes_on_from_an_adopted_pilot(rt: HostRuntime) -> Result<(), Fail> {
+    let records = [record(0, 0), record(2, 1), record(1, 8)];
+    let plan = Plan {
+        seed: SEED_OF_ZERO,
+        size: SIZE,
+        limit: 1,
+        buckets: ordered_buckets(rt.alloc(), &records, Map::Skewed, 7)?,
+    };
+    let mut scratch = Scratch::new(rt.alloc(), &plan)?;
+    match place(rt.alloc(), &plan)? {
+        Ok(whole) => {
+            assert!(rt; 1 <= whole.pilots.len());
+            let state = adopted(rt.alloc(), &plan, &whole, 1, &mut scratch)?;
+            assert_eq!(rt; state.done, 1);
+            assert_eq!(rt; state.occupied.count(), 2);
+            assert!(rt; 1 < state.occupied.size());
+            assert!(rt; state.occupied.contains(0));
+            assert!(rt; state.occupied.contains(1));
+            match place_from(&plan, state, &mut scratch) {
+                Ok(found) => {
+                    assert_eq!(rt; found.pilots, whole.pilots);
+                    assert_eq!(rt; found.done, whole.done);
+                    assert_eq!(rt; found.occupied.count(), whole.occupied.count());
+                    for position in 0..SIZE {
+                        assert!(rt; position < found.occupied.size());
+                        assert!(rt; position < whole.occupied.size());
+                        assert_eq!(rt;
+                            found.occupied.contains(position),
+                            whole.occupied.contains(position),
+                            "position {position}"
+                        );
+                    }
+                }
+                Err(_) => panic!(rt; "the search from an adopted pilot is stuck"),
+            }
+        }
+        Err(_) => panic!(rt; "the search is stuck"),
+    }
     Ok(())
 }

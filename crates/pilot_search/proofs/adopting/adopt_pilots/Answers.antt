@@ -4,4 +4,5 @@ use Rattle.pilot_search.proofs.adopting.adopt_pilots.Goals as goal
 
 pub adopt_pilot-requires-clause-pilot : goal.adopt_pilot-requires-clause-pilot
 adopt_pilot-requires-clause-pilot c =
-    known_pilot c.args.plan.now c.loop-rank.rank c.loop-rank.pilots c.args.known.now c.loop-rank.occupied c.loop-rank.invariant.so_far c.requires.known (omega arith)
+    let l = c.loop-rank in
+    known_pilot c.args.plan.now l.rank l.pilots c.args.known.now l.occupied l.invariant.so_far c.requires.known (omega arith)

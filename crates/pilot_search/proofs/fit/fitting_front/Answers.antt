@@ -65,5 +65,6 @@ loop-i-preserved c =
           ∙ ap (λ ps. ps ++ p ∷ []) c.loop-i.invariant.places
           ∙ ap (λ q. take i places ++ q ∷ []) (sym here)
           ∙ sym (take_more places i 0 in_range);
-      marks = subst (AreMarks c.mark_new.new.marks) (sym (take_more_set c.loop-i.positions i p (omega arith))) (c.mark_new.ensures.marked c.if-not-mark_new.false);
+      marks = subst (AreMarks c.mark_new.new.marks) (sym (take_more_set c.loop-i.positions i p (omega arith)))
+          (c.mark_new.ensures.marked c.if-not-mark_new.false);
     }

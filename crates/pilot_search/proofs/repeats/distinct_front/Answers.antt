@@ -11,16 +11,20 @@ pub returns-then-not-mark_new-clause-some : goal.returns-then-not-mark_new-claus
 returns-then-not-mark_new-clause-some c = λ _.
     let numbers : List ℕ = c.args.numbers.now in
     let i : ℕ = c.loop-i.i in
-    let again : is_among (take i numbers) (get_or numbers i 0) ≡ true = known_from_not (is_among (take i numbers) (get_or numbers i 0)) (sym c.mark_new.ensures.new ∙ c.if-not-mark_new.true) in
-    repeats_at numbers i (get_or numbers i 0) (omega arith) refl again
+    let number : ℕ = get_or numbers i 0 in
+    let again : is_among (take i numbers) number ≡ true =
+    known_from_not (is_among (take i numbers) number) (sym c.mark_new.ensures.new ∙ c.if-not-mark_new.true) in
+    repeats_at numbers i number (omega arith) refl again
 
 pub loop-i-preserved : goal.loop-i-preserved
 loop-i-preserved c =
     let numbers : List ℕ = c.args.numbers.now in
     let i : ℕ = c.loop-i.i in
     let in_range : i < length numbers = omega arith in
-    let new : is_among (take i numbers) (get_or numbers i 0) ≡ false = not-true (is_among (take i numbers) (get_or numbers i 0)) (sym c.mark_new.ensures.new ∙ c.if-not-mark_new.false) in
+    let number : ℕ = get_or numbers i 0 in
+    let new : is_among (take i numbers) number ≡ false =
+    not-true (is_among (take i numbers) number) (sym c.mark_new.ensures.new ∙ c.if-not-mark_new.false) in
     record {
-      distinct = distinct_at numbers i (get_or numbers i 0) in_range refl c.loop-i.invariant.distinct new;
+      distinct = distinct_at numbers i number in_range refl c.loop-i.invariant.distinct new;
       marks = subst (AreMarks c.mark_new.new.marks) (sym (take_more numbers i 0 in_range)) (c.mark_new.ensures.marked c.if-not-mark_new.false);
     }

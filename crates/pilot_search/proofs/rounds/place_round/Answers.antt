@@ -1,7 +1,7 @@
 use Rattle.std.proofs.Common.{◌≡◌, ℕ, sym, ap, ◌∙◌, subst, arith, take}
 use Rattle.std.specs.FinSet.{contains}
 use Rattle.pthash.specs.Order.{bucket_at}
-use Rattle.pthash.specs.Search.{pilot_fits}
+use Rattle.pthash.specs.Search.{SearchState, pilot_fits}
 use Rattle.pthash.specs.SearchLaws.{pilot_fits-more}
 use Rattle.pthash.specs.PrefixLaws.{prefix_of-taken}
 use Rattle.pthash.specs.Least.{FailsBelow}
@@ -16,7 +16,9 @@ place_bucket-requires-clause-no_lower c =
     let members = (bucket_at plan.buckets c.loop-rank.rank).members in
     let tested : HasNoLower plan before c.loop-rank.rank c.tested_to-first.result = c.tested_to-first.ensures plan before c.requires.tested (omega arith) in
     let size : before.size ≡ c.args.size.now = c.requires.so_far.size ∙ sym c.requires.divisor in
-    let more = prefix_of-taken plan c.args.start c.loop-rank.rank (record { pilots = take c.args.start c.args.pilots.now; taken = before.taken }) (record { pilots = take c.loop-rank.rank c.loop-rank.pilots; taken = now.taken })
+    let state : SearchState = record { pilots = take c.args.start c.args.pilots.now; taken = before.taken } in
+    let later : SearchState = record { pilots = take c.loop-rank.rank c.loop-rank.pilots; taken = now.taken } in
+    let more = prefix_of-taken plan c.args.start c.loop-rank.rank state later
     c.requires.so_far.state c.loop-rank.invariant.so_far.state (omega arith) in
     record {
       fails = λ j below.

@@ -17,7 +17,8 @@ loop-i-preserved c = λ k below within.
     (λ (last : i ≤ k).
     let here : k ≡ i = omega arith in
     let rank : c.args.start + i ≡ c.args.start + k = omega arith in
-    let value : slice_index (slice_set c.loop-i.firsts i first) k ≡ first = ap (slice_index (slice_set c.loop-i.firsts i first)) here ∙ get_or-set_same c.loop-i.firsts i first 0 (omega arith) in
+    let value : slice_index (slice_set c.loop-i.firsts i first) k ≡ first = ap (slice_index (slice_set c.loop-i.firsts i first)) here
+    ∙ get_or-set_same c.loop-i.firsts i first 0 (omega arith) in
     subst (HasNoLower plan table (c.args.start + k)) (sym value)
     (subst (λ r. HasNoLower plan table r first) rank (c.first_fitting.ensures (omega arith))))
     (cases_lt k i)

@@ -10,7 +10,8 @@ loop-i-preserved c =
     let places : List ℕ = positions_under c.args.hash c.args.size.now members in
     let i : ℕ = c.loop-i.i in
     let in_range : i < length places = omega (arith, length-positions_under c.args.hash c.args.size.now members) in
-    let here : get_or places i 0 ≡ c.remainder.result = get_or-positions_under c.args.hash c.args.size.now members i (omega arith) ∙ sym c.remainder.ensures.value in
+    let here : get_or places i 0 ≡ c.remainder.result = get_or-positions_under c.args.hash c.args.size.now members i (omega arith)
+    ∙ sym c.remainder.ensures.value in
     take_more_set c.loop-i.positions i c.remainder.result (omega arith)
     ∙ ap (λ ps. ps ++ c.remainder.result ∷ []) c.loop-i.invariant
     ∙ ap (λ q. take i places ++ q ∷ []) (sym here)

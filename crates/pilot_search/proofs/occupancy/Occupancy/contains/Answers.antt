@@ -9,5 +9,6 @@ pub returns : goal.returns
 returns c =
     c.is_set.ensures
     ∙ ap (λ ws. is_set ws 0 c.args.position) c.deref.ensures.value
-    ∙ sym (contains-set_of_below c.self.inside.size (is_set c.self.inside.words.items 0) c.args.position (omega (arith, ap (λ (t : Table). t.size) c.self.view_is)))
+    ∙ sym (contains-set_of_below c.self.inside.size (is_set c.self.inside.words.items 0) c.args.position
+    (omega (arith, ap (λ (t : Table). t.size) c.self.view_is)))
     ∙ ap (λ (t : Table). contains t.taken c.args.position) c.self.view_is
