@@ -1,5 +1,5 @@
 -- Marks of numbers: bits by which a number is seen to be new.
-use Rattle.std.specs.Prelude.{◌≡◌, ℕ, ◌+◌, ◌-◌, ◌*◌, ◌/◌, ◌^◌, ◌<◌, ◌≤◌, true, false, List, length, map, slice_index, bit_and}
+use Rattle.std.specs.Prelude.{◌≡◌, ℕ, ◌-◌, ◌*◌, ◌/◌, ◌^◌, ◌≤◌, true, false, List, length, map, slice_index, bit_and}
 use Rattle.pthash.specs.Search.{is_among}
 use Rattle.word_bits.specs.Bits.{is_set}
 

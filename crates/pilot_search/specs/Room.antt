@@ -1,5 +1,5 @@
 -- What a search is lent.
-use Rattle.std.specs.Prelude.{◌≡◌, ℕ, ◌≤◌, [], List, length, take}
+use Rattle.std.specs.Prelude.{ℕ, ◌≤◌, [], List, length}
 use Rattle.pilot_search.specs.Kept.{AreHashes}
 use Rattle.pilot_search.specs.Marking.{AreMarks}
 

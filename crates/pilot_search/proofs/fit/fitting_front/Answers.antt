@@ -1,5 +1,5 @@
 use Rattle.std.proofs.Common.{◌≡◌, ℕ, ◌<◌, ◌||◌, ◌++◌, ◌∷◌, [], List, true, false, length, take, get_or, sym, ap, ◌∙◌, subst, arith}
-use Rattle.std.specs.Prelude.{bit_xor, ◌%◌, not}
+use Rattle.std.specs.Prelude.{bit_xor, ◌%◌}
 use Rattle.std.proofs.Math.Bool.{or-true}
 use Rattle.std.proofs.lemmas.Bool.{not-true}
 use Rattle.std.proofs.lemmas.List.{take_more, take_more_set}
@@ -7,7 +7,7 @@ use Rattle.std.specs.FinSet.{contains}
 use Rattle.pthash.specs.Search.{is_among}
 use Rattle.pilot_search.specs.Marking.{AreMarks}
 use Rattle.pilot_search.specs.Table.{positions_under}
-use Rattle.pilot_search.proofs.Fitting.{fails_at, fits_at, free_at, taken_at, known_from_not, get_or-positions_under, length-positions_under}
+use Rattle.pilot_search.proofs.Fitting.{fails_at, fits_at, known_from_not, get_or-positions_under, length-positions_under}
 use Rattle.pilot_search.proofs.fit.fitting_front.Goals as goal
 
 pub returns-then-contains-clause-some : goal.returns-then-contains-clause-some

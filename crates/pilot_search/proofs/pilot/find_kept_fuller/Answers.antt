@@ -1,4 +1,4 @@
-use Rattle.std.proofs.Common.{◌≡◌, ℕ, ◌<◌, ◌≤◌, List, false, sym, ap, ◌∙◌, arith, ⊎_elim}
+use Rattle.std.proofs.Common.{ℕ, ◌<◌, ◌≤◌, List, sym, ap, ◌∙◌, arith, ⊎_elim}
 use Rattle.std.specs.Prelude.{slice_index}
 use Rattle.std.specs.FinSet.{contains}
 use Rattle.std.proofs.lemmas.Bool.{cases_lt}

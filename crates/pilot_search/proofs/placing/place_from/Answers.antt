@@ -1,4 +1,3 @@
-use Rattle.std.proofs.Common.{sym, ap, ◌∙◌}
 use Rattle.pilot_search.proofs.Steps.{done_within}
 use Rattle.pilot_search.proofs.placing.place_from.Goals as goal
 

@@ -1,6 +1,6 @@
-use Rattle.std.proofs.Common.{ap, sym, ◌∙◌, subst, ◌++◌, ◌∷◌, [], length}
+use Rattle.std.proofs.Common.{ap, sym, ◌∙◌, subst, ◌++◌, ◌∷◌, []}
 use Rattle.word_bits.specs.Bits.{set_bit}
-use Rattle.pilot_search.specs.Marking.{AreMarks, mark_of}
+use Rattle.pilot_search.specs.Marking.{AreMarks}
 use Rattle.pilot_search.proofs.MarkLemmas.{marked_more}
 use Rattle.pilot_search.proofs.repeats.mark_new.Goals as goal
 

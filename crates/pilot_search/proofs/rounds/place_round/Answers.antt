@@ -1,10 +1,9 @@
-use Rattle.std.proofs.Common.{◌≡◌, ℕ, sym, ap, ◌∙◌, subst, arith, take}
+use Rattle.std.proofs.Common.{◌≡◌, sym, ap, ◌∙◌, arith, take}
 use Rattle.std.specs.FinSet.{contains}
 use Rattle.pthash.specs.Order.{bucket_at}
 use Rattle.pthash.specs.Search.{SearchState, pilot_fits}
 use Rattle.pthash.specs.SearchLaws.{pilot_fits-more}
 use Rattle.pthash.specs.PrefixLaws.{prefix_of-taken}
-use Rattle.pthash.specs.Least.{FailsBelow}
 use Rattle.pilot_search.specs.Rounds.{HasNoLower}
 use Rattle.pilot_search.proofs.rounds.place_round.Goals as goal
 
