@@ -10,7 +10,7 @@ ghost use Rattle.pth_top.specs.Shown.{shown_outcome};
 
 use crate::attempt::{Attempt, try_seed};
 use crate::partition::Partition;
-use bucket_map::{NoMemory, MAX_KEYS};
+use bucket_map::{MAX_KEYS, NoMemory};
 use build_outcome::Cause;
 use pth_outside::KeyList;
 use settings::Settings;

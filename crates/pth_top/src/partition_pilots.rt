@@ -11,7 +11,7 @@ ghost use Rattle.pth_top.specs.Rules.{rules_of, ArePilotsOf};
 ghost use Rattle.pth_top.specs.Shown.{shown_answer};
 
 use crate::partition::Partition;
-use bucket_map::{MAX_KEYS, Buckets, NoMemory, Record, bucket_count, ordered_buckets, table_size};
+use bucket_map::{Buckets, MAX_KEYS, NoMemory, Record, bucket_count, ordered_buckets, table_size};
 use pilot_search::{Plan, Stuck, place};
 use settings::Settings;
 use std::alloc::{AllocError, Global};

@@ -10,11 +10,11 @@ ghost use Rattle.pth_top.specs.Done.{Gives, done_of};
 ghost use Rattle.pth_top.specs.Ending.{IsOfCommand};
 ghost use Rattle.pth_top.specs.Pilots.{HasRepeat, pilots_result, keys_result, outcome_result, too_long_result, too_many_result, no_keys_result};
 
-use bucket_map::NoMemory;
 use crate::answer::{Answer, Stop};
 use crate::outcome::{Outcome, try_seeds};
 use crate::text::{built_text, exhausted_text, repeated_key_text, too_long_text, too_many_text};
 use crate::{LIST_REFUSED, REPEATED_KEY, SEEDS_EXHAUSTED, WORDS_REFUSED};
+use bucket_map::NoMemory;
 use command_words::Options;
 use pth_outside::{Files, KeyList, KeysErr, read_keys};
 use std::alloc::{AllocError, Global};
