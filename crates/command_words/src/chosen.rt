@@ -20,7 +20,7 @@ use std::alloc::{AllocError, Global};
 const EQUALS: char = '=';
 
 // Who leads a search where no word says it.
-pub const DEFAULT_SEARCH: Search = Search::Turns;
+pub(crate) const DEFAULT_SEARCH: Search = Search::Turns;
 
 // A setting.
 #[derive(Clone, Copy, Debug, PartialEq, Eq)]
@@ -39,7 +39,7 @@ pub enum Setting {
 }
 
 // The setting of this name.
-pub fn setting_named(name: &str) -> Option<Setting>
+pub(crate) fn setting_named(name: &str) -> Option<Setting>
     ensures { result ≡ setting_of name.now }
 {
     match name {
@@ -109,7 +109,7 @@ fn how_to_search(search: Search, workers: u32) -> How
 
 impl Chosen {
     // No values.
-    pub fn new() -> Self
+    pub(crate) fn new() -> Self
         ensures { chosen_values result ≡ nothing_given }
     {
         Self {
@@ -148,7 +148,7 @@ impl Chosen {
     }
 
     // Takes a word `name=value`.
-    pub fn take_word(&mut self, alloc: Global, word: &str) -> Result<(), Refusal>
+    pub(crate) fn take_word(&mut self, alloc: Global, word: &str) -> Result<(), Refusal>
         ensures { Answers (λ _. chosen_values self.new) result
             (with_word word.now (chosen_values self.old)) }
     {
@@ -162,7 +162,7 @@ impl Chosen {
     }
 
     // The settings, those that no word gives as they are by default.
-    pub fn options(self, alloc: Global) -> Result<Options, AllocError>
+    pub(crate) fn options(self, alloc: Global) -> Result<Options, AllocError>
         requires { IsInRange (options_of (chosen_values self)) }
         ensures { IfOk result (λ o. options_data o ≡ options_of (chosen_values self)) }
     {

@@ -9,7 +9,7 @@ use settings::MAX_SEEDS;
 use std::alloc::Global;
 
 // The byte between two seeds.
-pub const COMMA: char = ',';
+pub(crate) const COMMA: char = ',';
 
 // Whether a text begins with a digit, and with 0 only where nothing follows.
 fn is_plain(bytes: &[u8]) -> bool
@@ -36,7 +36,7 @@ fn number(text: &str) -> Option<u64>
 }
 
 // The number that a text spells, from low to high.
-pub fn read_number(text: &str, low: u64, high: u64) -> Result<u64, Refusal>
+pub(crate) fn read_number(text: &str, low: u64, high: u64) -> Result<u64, Refusal>
     ensures value { Answers (λ x. x) result (number_in low high text.now) }
     ensures fits { IfOk result (λ n. n ≤ high) }
 {
@@ -50,7 +50,7 @@ pub fn read_number(text: &str, low: u64, high: u64) -> Result<u64, Refusal>
 }
 
 // The number that a text spells, from low to high, in 32 bits.
-pub fn read_small(text: &str, low: u32, high: u32) -> Result<u32, Refusal>
+pub(crate) fn read_small(text: &str, low: u32, high: u32) -> Result<u32, Refusal>
     ensures { Answers (λ x. x) result (number_in low high text.now) }
 {
     match read_number(text, u64::from(low), u64::from(high)) {
@@ -60,7 +60,7 @@ pub fn read_small(text: &str, low: u32, high: u32) -> Result<u32, Refusal>
 }
 
 // The seeds that a text lists between commas.
-pub fn read_seeds(alloc: Global, text: &str) -> Result<Vec<u64>, Refusal>
+pub(crate) fn read_seeds(alloc: Global, text: &str) -> Result<Vec<u64>, Refusal>
     ensures { Answers vec_items result (seeds_in text.now) }
 {
     let mut seeds = Vec::new(alloc);

@@ -15,10 +15,10 @@ pub enum Search {
 }
 
 // The byte between two codes.
-pub const DASH: char = '-';
+pub(crate) const DASH: char = '-';
 
 // The kind of search that a text names.
-pub fn read_search(text: &str) -> Result<Search, Refusal>
+pub(crate) fn read_search(text: &str) -> Result<Search, Refusal>
     ensures { Answers (λ x. x) result (search_in text.now) }
 {
     match text {
@@ -29,7 +29,7 @@ pub fn read_search(text: &str) -> Result<Search, Refusal>
 }
 
 // The map that a text names.
-pub fn read_map(text: &str) -> Result<Map, Refusal>
+pub(crate) fn read_map(text: &str) -> Result<Map, Refusal>
     ensures { Answers (λ x. x) result (map_in text.now) }
 {
     match text {
@@ -70,7 +70,7 @@ fn encoding_named(text: &str) -> Option<Encoding>
 }
 
 // The encoding that a text names.
-pub fn read_encoding(text: &str) -> Result<Encoding, Refusal>
+pub(crate) fn read_encoding(text: &str) -> Result<Encoding, Refusal>
     ensures { Answers (λ x. x) result (encoding_in text.now) }
 {
     match encoding_named(text) {
