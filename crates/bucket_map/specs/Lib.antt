@@ -3,6 +3,7 @@ pub use Rattle.pthash.specs.Order
 pub use Rattle.pthash.specs.Partitions
 pub use Rattle.pthash.specs.Shapes
 pub mod ShapeData
+pub mod Dividing
 pub mod Grouping
 pub mod Ranking
 pub mod Layout

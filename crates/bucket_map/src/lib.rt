@@ -1,6 +1,7 @@
 //! How many buckets and positions serve a list of keys, and its records in buckets, the largest first.
 #![tactic(auto)]
 
+mod bucket_divisors;
 mod clash;
 mod group;
 mod order;
@@ -9,6 +10,7 @@ mod sizes;
 #[cfg(test)]
 mod tests;
 
+pub use crate::bucket_divisors::BucketDivisors;
 pub use crate::clash::least_clash;
 pub use crate::order::{Buckets, NoMemory, ordered_buckets};
 pub use crate::partition::{Partitions, partitioned};

@@ -9,6 +9,7 @@ pub mod FreeListLaws
 pub mod MarkLaws
 pub mod Attempt
 pub mod PartLaws
+pub mod OnePart
 pub mod AttemptParts
 pub mod ValueLaws
 pub mod AttemptLaws

@@ -1,6 +1,7 @@
 // Which positions of a table are taken: a bit for each.
 
-ghost use Rattle.std.specs.Prelude.{◌≡◌, ◌<◌, ◌≤◌, true, nat_lt, IfOk};
+ghost use Rattle.std.specs.Prelude.{◌≡◌, ℕ, ◌+◌, ◌*◌, ◌<◌, ◌≤◌, true, ◌==◌, nat_lt, IfOk};
+ghost use Rattle.std.specs.Int.{bit_at};
 ghost use Rattle.std.specs.List.{list_all};
 ghost use Rattle.std.specs.FinSet as set;
 ghost use Rattle.pthash.specs.declared.TheConstants.{MAX_POSITIONS};
@@ -96,5 +97,15 @@ impl Occupancy {
         for position in positions {
             self.take(*position);
         }
+    }
+
+    /// Which of the positions from 64 times `i` on are taken: a bit of the word for each, the lowest first.
+    #[inline]
+    pub fn word(&self, i: u64) -> u64
+        requires { 64 * i < self.now.size }
+        ensures { (k : ℕ) → k < 64 → 64 * i + k < self.now.size →
+            (bit_at result k == 1) ≡ set.contains self.now.taken (64 * i + k) }
+    {
+        self.words[i as usize]
     }
 }

@@ -1,6 +1,6 @@
 // What a search is lent, so that it takes no memory.
 
-ghost use Rattle.std.specs.Prelude.{◌≡◌, ◌≤◌, [], length, take, IfOk, IfSome};
+ghost use Rattle.std.specs.Prelude.{◌≡◌, ◌-◌, ◌≤◌, [], ◌++◌, length, replicate, take, IfOk, IfSome, OnOk, OnErr};
 ghost use Rattle.std.specs.FinSet.{contains};
 ghost use Rattle.pthash.specs.declared.TheConstants.{MAX_POSITIONS};
 ghost use Rattle.pthash.specs.Order.{most_members};
@@ -194,4 +194,33 @@ fn write_positions(members: &[u64], hash: u64, size: &Divisor, positions: &mut [
     for (i, member) in members.iter().enumerate() {
         positions[i] = size.remainder(*member ^ hash);
     }
+}
+
+impl Scratch {
+    /// Makes room for buckets of so many members, and keeps what room there is.
+    pub fn serve(&mut self, members: u64) -> Result<(), NoMemory>
+        requires { members ≤ MAX_POSITIONS }
+        ensures ok { OnOk result (members ≤ self.new.members) }
+        ensures kept { self.old.members ≤ self.new.members }
+        ensures err { OnErr result (self.new ≡ self.old) }
+    {
+        if members > self.positions.len() as u64 {
+            let words = (members / 8 + 1).next_power_of_two();
+            lengthen(&mut self.marks, words as usize)?;
+            lengthen(&mut self.positions, members as usize)?;
+        }
+        Ok(())
+    }
+}
+
+// Adds zeros up to this length, if there are fewer numbers.
+fn lengthen(numbers: &mut Vec<u64>, len: usize) -> Result<(), AllocError>
+    ensures ok { OnOk result (numbers.new.items
+        ≡ numbers.old.items ++ replicate (len - length numbers.old.items) 0) }
+    ensures err { OnErr result (numbers.new.items ≡ numbers.old.items) }
+{
+    if numbers.len() < len {
+        numbers.resize(len, 0)?;
+    }
+    Ok(())
 }
