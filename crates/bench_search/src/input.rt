@@ -1,5 +1,4 @@
 // Random input, the same in each run.
-#![tactic(auto)]
 
 use bucket_map::Record;
 use std::alloc::{AllocError, Global};
@@ -41,4 +40,42 @@ pub fn records(alloc: Global, count: u32) -> Result<Vec<Record>, AllocError> {
         })?;
     }
     Ok(records)
+}
+
+// Records of which the last has the pair of the first.
+pub fn records_with_a_repeat(alloc: Global, count: u32) -> Result<Vec<Record>, AllocError> {
+    let mut records = records(alloc, count)?;
+    if records.len() > 1 {
+        let last = records.len() - 1;
+        let Record { a, b, .. } = records[0];
+        records[last] = Record {
+            a,
+            b,
+            ordinal: last as u64,
+        };
+    }
+    Ok(records)
+}
+
+// Records of which the first so many are of one bucket.
+pub fn records_of_one_bucket(
+    alloc: Global,
+    members: u32,
+    count: u32,
+) -> Result<Vec<Record>, AllocError> {
+    let mut records = records(alloc, count)?;
+    for i in 0..records.len().min(members as usize) {
+        records[i].a = 0;
+    }
+    Ok(records)
+}
+
+// Second hashes of the keys of one bucket.
+pub fn members(alloc: Global, count: u32) -> Result<Vec<u64>, AllocError> {
+    let mut numbers = Numbers { state: 1 };
+    let mut members = Vec::with_capacity(alloc, count as usize)?;
+    for _ in 0..count {
+        members.push(numbers.next())?;
+    }
+    Ok(members)
 }

@@ -3,10 +3,13 @@
 
 mod input;
 mod parts;
+mod searches;
 
-use crate::parts::{Timed, time_buckets, time_murmur64, time_pairs, time_place};
+use crate::parts::{Timed, time_buckets, time_murmur64, time_pairs};
+use crate::searches::time_search;
 use std::alloc::Global;
 use std::rt::Clock;
+use std::thread::Threads;
 use std::{env, io};
 
 fn main(rt: HostRuntime) -> io::Result<()> {
@@ -17,20 +20,25 @@ fn main(rt: HostRuntime) -> io::Result<()> {
     match (part, count) {
         (Some(part), Some(count)) => {
             let count = count.as_str().parse::<u32>().unwrap_or(1_000_000);
-            let Timed { nanos, checksum } = time(rt.alloc(), &rt, part.as_str(), count)?;
+            let Timed { nanos, checksum } = time(&rt, rt.alloc(), part.as_str(), count)?;
             println!(rt; "{nanos} {checksum}")
         }
         _ => println!(rt;
-            "parts: murmur64, hash_pair, ordered_buckets, place; then how many bytes or keys"
+            "parts: murmur64, hash_pair, ordered_buckets, place, place_tight, rounds, rounds_tight, partitions, repeat, often, large, among; then how many bytes, keys, records or members"
         ),
     }
 }
 
-fn time(alloc: Global, clock: &impl Clock, part: &str, count: u32) -> io::Result<Timed> {
+fn time<R: Clock + Threads + Sync>(
+    rt: &R,
+    alloc: Global,
+    part: &str,
+    count: u32,
+) -> io::Result<Timed> {
     match part {
-        "murmur64" => time_murmur64(alloc, clock, count),
-        "hash_pair" => time_pairs(alloc, clock, count),
-        "ordered_buckets" => time_buckets(alloc, clock, count),
-        _ => time_place(alloc, clock, count),
+        "murmur64" => time_murmur64(alloc, rt, count),
+        "hash_pair" => time_pairs(alloc, rt, count),
+        "ordered_buckets" => time_buckets(alloc, rt, count),
+        _ => time_search(rt, alloc, part, count),
     }
 }

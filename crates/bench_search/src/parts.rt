@@ -1,20 +1,14 @@
-// The parts that are timed.
-#![tactic(auto)]
+// The parts before the search that are timed.
 
 use crate::input::{bytes, records};
-use bucket_map::{Buckets, MAX_KEYS, Map, Record, bucket_count, ordered_buckets, table_size};
+use bucket_map::{Buckets, MAX_KEYS, Map, Record, bucket_count, ordered_buckets};
 use murmur64::{hash_pair, murmur64};
-use pilot_search::{Plan, place};
 use std::alloc::Global;
 use std::io;
 use std::rt::Clock;
 use std::time::Instant;
 
-const ALPHA: u32 = 98;
-
 const BUCKETS: u32 = 700;
-
-const PILOTS: u64 = 16_777_216;
 
 const KEY_LEN: usize = 16;
 
@@ -64,7 +58,7 @@ pub fn time_buckets(alloc: Global, clock: &impl Clock, count: u32) -> io::Result
 fn buckets_of(alloc: Global, records: &[Record]) -> io::Result<Buckets> {
     let n = records.len() as u64;
     if n == 0 || n > MAX_KEYS {
-        return Err(io::Error::from(io::ErrorKind::InvalidInput));
+        return Err(invalid_input());
     }
     match ordered_buckets(alloc, records, Map::Skewed, bucket_count(n, BUCKETS)) {
         Ok(buckets) => Ok(buckets),
@@ -72,8 +66,12 @@ fn buckets_of(alloc: Global, records: &[Record]) -> io::Result<Buckets> {
     }
 }
 
-fn out_of_memory() -> io::Error {
+pub fn out_of_memory() -> io::Error {
     io::Error::from(io::ErrorKind::OutOfMemory)
+}
+
+pub fn invalid_input() -> io::Error {
+    io::Error::from(io::ErrorKind::InvalidInput)
 }
 
 fn checksum_of(buckets: &Buckets) -> u64 {
@@ -83,49 +81,6 @@ fn checksum_of(buckets: &Buckets) -> u64 {
         for member in buckets.members(rank) {
             checksum ^= *member;
         }
-    }
-    checksum
-}
-
-pub fn time_place(alloc: Global, clock: &impl Clock, count: u32) -> io::Result<Timed> {
-    let records = records(alloc, count)?;
-    let plan = plan_of(alloc, &records)?;
-    let start = Instant::now(clock)?;
-    let answer = place(alloc, &plan);
-    let nanos = start.elapsed(clock)?.as_nanos();
-    match answer {
-        Ok(Ok(placed)) => Ok(Timed {
-            nanos,
-            checksum: checksum_of_pilots(&placed.pilots),
-        }),
-        Ok(Err(stuck)) => Ok(Timed {
-            nanos,
-            checksum: stuck.rank,
-        }),
-        Err(_) => Err(out_of_memory()),
-    }
-}
-
-fn plan_of(alloc: Global, records: &[Record]) -> io::Result<Plan> {
-    let n = records.len() as u64;
-    if n == 0 || n > MAX_KEYS {
-        return Err(io::Error::from(io::ErrorKind::InvalidInput));
-    }
-    match ordered_buckets(alloc, records, Map::Skewed, bucket_count(n, BUCKETS)) {
-        Ok(buckets) => Ok(Plan {
-            seed: 1,
-            size: table_size(n, ALPHA),
-            limit: PILOTS,
-            buckets,
-        }),
-        Err(_) => Err(out_of_memory()),
-    }
-}
-
-fn checksum_of_pilots(pilots: &[u64]) -> u64 {
-    let mut checksum = 0u64;
-    for pilot in pilots {
-        checksum = checksum.wrapping_mul(31).wrapping_add(*pilot);
     }
     checksum
 }

@@ -9,8 +9,7 @@ use Rattle.std.proofs.lemmas.List.{take_more, take-append-drop, get_or-map, leng
 use Rattle.std.proofs.lemmas.List.Folds.{list_all-append, list_any-append}
 use Rattle.std.proofs.lemmas.List.Sums.{AllPass-from_list_all}
 use Rattle.pthash.specs.Search.{fits, is_among, is_distinct}
-use Rattle.pilot_search.specs.Table.{Table, IsBlocked, positions_under}
-use Rattle.std.specs.FinSet.{contains}
+use Rattle.pilot_search.specs.Table.{positions_under}
 
 -- equality of numbers, either way round
 same_test : (x y : ℕ) → nat_eq x y ≡ nat_eq y x
@@ -148,22 +147,9 @@ pub length-positions_under : (hash size : ℕ) (members : List ℕ) → length (
 length-positions_under hash size members = length-map members (λ b. bit_xor b hash % size)
 
 -- a taken position fails the pilot
-taken_fails : (taken : ℕ → Bool) (hash size : ℕ) (members : List ℕ) (i : ℕ) → i < length members → taken (bit_xor (get_or members i 0) hash % size) ≡ true
+pub taken_fails : (taken : ℕ → Bool) (hash size : ℕ) (members : List ℕ) (i : ℕ) → i < length members → taken (bit_xor (get_or members i 0) hash % size) ≡ true
     → fits taken (positions_under hash size members) ≡ false
 taken_fails taken hash size members i in_range known =
     ap (λ b. b && is_distinct (positions_under hash size members))
     (taken_at taken (positions_under hash size members) i (bit_xor (get_or members i 0) hash % size)
     (omega (arith, length-positions_under hash size members)) (get_or-positions_under hash size members i in_range) known)
-
--- a pilot under which the first or the last member has a taken position doesn't fit
-pub blocked_fails : (table : Table) (hash : ℕ) (members : List ℕ) → 1 ≤ length members → IsBlocked members table hash →
-    fits (contains table.taken) (positions_under hash table.size members) ≡ false
-blocked_fails table hash members some blocked =
-    let place : ℕ → ℕ = λ i. bit_xor (get_or members i 0) hash % table.size in
-    let Fails : Type 0 = fits (contains table.taken) (positions_under hash table.size members) ≡ false in
-    elim (contains table.taken (place 0)) as (λ b. contains table.taken (place 0) ≡ b → Fails) [
-      | true ↦ λ first. taken_fails (contains table.taken) hash table.size members 0 (omega arith) first
-      | false ↦ λ free.
-          taken_fails (contains table.taken) hash table.size members (length members - 1) (omega arith)
-          (ap (λ b. b || contains table.taken (place (length members - 1))) (sym free) ∙ blocked)
-    ] refl

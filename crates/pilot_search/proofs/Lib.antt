@@ -2,5 +2,6 @@ pub mod Words
 pub mod MarkLemmas
 pub mod BucketCounts
 pub mod Fitting
+pub mod FlagLemmas
 pub mod Steps
 pub mod CallerLemmas

@@ -2,5 +2,6 @@ pub mod Table
 pub mod Room
 pub mod Marking
 pub mod Kept
+pub mod Flags
 pub mod Outcome
 pub mod Rounds

@@ -1,5 +1,5 @@
 -- The table of positions, of which some are taken.
-use Rattle.std.specs.Prelude.{ℕ, ◌≡◌, ◌-◌, ◌*◌, ◌%◌, Bool, true, ◌||◌, slice_index, ◌<◌, ◌≤◌, List, length, map, bit_xor, refl}
+use Rattle.std.specs.Prelude.{ℕ, ◌≡◌, ◌*◌, ◌%◌, ◌<◌, ◌≤◌, List, length, map, bit_xor, refl}
 use Rattle.std.specs.Coded.{Coded, code_by, coded×, coded_ℕ}
 use Rattle.std.specs.FinSet as set
 use Rattle.pthash.specs.declared.TheConstants.{MAX_POSITIONS}
@@ -22,14 +22,6 @@ pub record IsTable (words : List ℕ) (size count : ℕ) : Type 0 where
   pub bound : size ≤ MAX_POSITIONS
   pub room : size < 64 * length words
   pub counted : count ≡ set.len (set_of size (is_set words 0))
-
--- whether one of two members has a taken position under a pilot of this hash
-abbrev pub is_blocked : ℕ → ℕ → ℕ → Table → Bool
-is_blocked one two hash table = set.contains table.taken (bit_xor one hash % table.size) || set.contains table.taken (bit_xor two hash % table.size)
-
--- the first or the last member has a taken position under a pilot of this hash
-abbrev pub IsBlocked : List ℕ → Table → ℕ → Type 0
-IsBlocked members table hash = is_blocked (slice_index members 0) (slice_index members (length members - 1)) hash table ≡ true
 
 -- the positions of members under a pilot of this hash, in a table of this size
 abbrev pub positions_under : ℕ → ℕ → List ℕ → List ℕ

@@ -4,6 +4,7 @@
 mod adopting;
 mod bits;
 mod fit;
+mod groups;
 mod occupancy;
 mod pilot;
 mod placing;

@@ -1,21 +1,18 @@
 // The least pilot that sends the keys of one bucket to distinct free positions.
 
-ghost use Rattle.std.specs.Prelude.{◌≡◌, ◌<◌, ◌≤◌, ℕ, [], length, slice_index, take, min, IfSome};
+ghost use Rattle.std.specs.Prelude.{◌≡◌, ◌≤◌, [], length, take, min, IfSome};
 ghost use Rattle.std.specs.FinSet.{contains};
 ghost use Rattle.pthash.specs.Search.{pilot_fits, positions_of};
 ghost use Rattle.pthash.specs.Least.{FailsBelow, IsAnswer};
 ghost use Rattle.pilot_search.specs.Kept.{AreHashes};
 ghost use Rattle.pilot_search.specs.Marking.{AreMarks};
-ghost use Rattle.pilot_search.specs.Table.{is_blocked, IsBlocked};
 
 use crate::fit::is_fit;
+use crate::groups::{GROUP, find_in_group};
 use crate::occupancy::Occupancy;
 use crate::repeats::{FEW, are_distinct};
 use divisor::Divisor;
 use murmur64::pilot_hash;
-
-// So many pilots are tried together where the table is fuller.
-const GROUP: u64 = 4;
 
 // The pilot of a bucket with these members, sought from `first` on, and then its positions.
 pub(crate) fn find_pilot(
@@ -82,7 +79,7 @@ fn find_among_kept(
         IfSome result (λ k. take (length members.now) positions.new ≡ places k) }
     ensures marks { AreMarks marks.new [] }
 {
-    if occupied.count() > occupied.size() / 2 {
+    if occupied.count() > occupied.size() / 4 {
         find_kept_fuller(
             members, first, seed, limit, size, occupied, hashes, positions, marks,
         )
@@ -132,7 +129,7 @@ fn find_kept(
     None
 }
 
-// The same in a table that is so full that most pilots fail at the first or the last member.
+// The same, a group of pilots after another while groups are left.
 fn find_kept_fuller(
     members: &[u64],
     first: u64,
@@ -159,62 +156,18 @@ fn find_kept_fuller(
 {
     let end = limit.min(hashes.len() as u64);
     let mut next = first;
-    while next < end {
-        let open = next_open(members, hashes, next, end, size, occupied);
-        let stop = end.min(open + GROUP);
-        match find_kept(
-            members, open, seed, stop, size, occupied, hashes, positions, marks,
+    while end.saturating_sub(next) >= GROUP {
+        match find_in_group(
+            members, next, seed, size, occupied, hashes, positions, marks,
         ) {
             Some(pilot) => return Some(pilot),
             None => {}
         }
-        next = stop;
-    }
-    None
-}
-
-// Goes on in groups of pilots of which each sends the first or the last member to a taken position.
-fn next_open(
-    members: &[u64],
-    hashes: &[u64],
-    from: u64,
-    end: u64,
-    size: &Divisor,
-    occupied: &Occupancy,
-) -> u64
-    requires some { 1 ≤ length members.now }
-    requires from { from ≤ end }
-    requires end { end ≤ length hashes.now }
-    requires size { size.now ≡ occupied.now.size }
-    ensures lower { from ≤ result }
-    ensures upper { result ≤ end }
-    ensures blocked { (j : ℕ) → from ≤ j → j < result →
-        IsBlocked members.now occupied.now (slice_index hashes.now j) }
-{
-    let one = members[0];
-    let two = members[members.len() - 1];
-    let mut next = from;
-    while next + GROUP <= end {
-        let i = next as usize;
-        let first = is_blocked(one, two, hashes[i], size, occupied);
-        let second = is_blocked(one, two, hashes[i + 1], size, occupied);
-        let third = is_blocked(one, two, hashes[i + 2], size, occupied);
-        let fourth = is_blocked(one, two, hashes[i + 3], size, occupied);
-        if !(first & second & third & fourth) {
-            return next;
-        }
         next += GROUP;
     }
-    next
-}
-
-// Whether one of two members has a taken position.
-#[inline]
-fn is_blocked(one: u64, two: u64, hash: u64, size: &Divisor, occupied: &Occupancy) -> bool
-    requires { size.now ≡ occupied.now.size }
-    ensures { result ≡ is_blocked one two hash occupied.now }
-{
-    occupied.contains(size.remainder(one ^ hash)) | occupied.contains(size.remainder(two ^ hash))
+    find_kept(
+        members, next, seed, limit, size, occupied, hashes, positions, marks,
+    )
 }
 
 // The pilot, if none of those whose hashes are kept fits. Equal members have no pilot.

@@ -5,11 +5,11 @@ use Rattle.pthash.specs.Least.{FailsBelow}
 use Rattle.pilot_search.specs.Marking.{AreMarks}
 use Rattle.pilot_search.proofs.pilot.find_kept_fuller.Given as goal
 
-abbrev pub invariant-loop-next : goal.invariant-loop-next
-invariant-loop-next l = record {
+abbrev pub invariant-loop-positions : goal.invariant-loop-positions
+invariant-loop-positions l = record {
   fails : FailsBelow (pilot_fits l.seed l.size (contains l.occupied.taken) l.members) l.next;
   marks : AreMarks l.marks [];
 }
 
-abbrev pub decreases-loop-next : goal.decreases-loop-next
-decreases-loop-next l = l.end - l.next
+abbrev pub decreases-loop-positions : goal.decreases-loop-positions
+decreases-loop-positions l = l.end - l.next

@@ -1,0 +1,231 @@
+// The searches that are timed.
+
+ghost use Rattle.std.specs.Prelude.{◌≡◌, ◌≤◌, IfOk};
+ghost use Rattle.pthash.specs.declared.TheConstants.{MAX_POSITIONS};
+
+use crate::input::{members, records, records_of_one_bucket, records_with_a_repeat};
+use crate::parts::{Timed, invalid_input, out_of_memory};
+use bucket_map::{
+    MAX_KEYS, MAX_PILOTS, Map, NoMemory, Record, Shape, bucket_count, ordered_buckets, partitioned, table_size,
+};
+use pilot_search::{Occupancy, Placed, Plan, Scratch, Stuck, place, place_one, place_rounds};
+use std::alloc::Global;
+use std::io;
+use std::rt::Clock;
+use std::thread::Threads;
+use std::time::Instant;
+
+const SEED: u64 = 1;
+
+const PILOTS: u64 = 16_777_216;
+
+// So many threads search in rounds.
+const WORKERS: u32 = 4;
+
+const PARTITIONS: u32 = 64;
+
+// So often a small list is placed.
+const TIMES: u64 = 1000;
+
+// The table in which one large bucket is tried, and how many pilots are.
+const LARGE_SIZE: u64 = 102_041;
+
+const LARGE_PILOTS: u64 = 100_000;
+
+// So many records there are where many are of one bucket, and so many pilots may be tried.
+const AMONG: u32 = 1_000_000;
+
+const AMONG_PILOTS: u64 = 10_000;
+
+pub fn time_search<R: Clock + Threads + Sync>(
+    rt: &R,
+    alloc: Global,
+    part: &str,
+    count: u32,
+) -> io::Result<Timed> {
+    match part {
+        "place" => time_place(rt, alloc, &records(alloc, count)?, usual(), PILOTS),
+        "place_tight" => time_place(rt, alloc, &records(alloc, count)?, tight(), PILOTS),
+        "rounds" => time_rounds(rt, alloc, &records(alloc, count)?, usual()),
+        "rounds_tight" => time_rounds(rt, alloc, &records(alloc, count)?, tight()),
+        "partitions" => time_partitions(rt, alloc, &records(alloc, count)?),
+        "repeat" => {
+            let records = records_with_a_repeat(alloc, count)?;
+            time_place(rt, alloc, &records, usual(), PILOTS)
+        }
+        "often" => time_often(rt, alloc, &records(alloc, count)?),
+        "large" => time_large(rt, alloc, &members(alloc, count)?),
+        "among" => {
+            let records = records_of_one_bucket(alloc, count, AMONG)?;
+            time_place(rt, alloc, &records, usual(), AMONG_PILOTS)
+        }
+        _ => Err(invalid_input()),
+    }
+}
+
+fn usual() -> Shape {
+    Shape {
+        alpha: 98,
+        c: 700,
+        map: Map::Skewed,
+    }
+}
+
+fn tight() -> Shape {
+    Shape {
+        alpha: 99,
+        c: 200,
+        map: Map::Skewed,
+    }
+}
+
+fn plan_of(alloc: Global, records: &[Record], shape: Shape, limit: u64) -> io::Result<Plan>
+    requires some { 1 ≤ limit }
+    requires bound { limit ≤ MAX_PILOTS }
+{
+    let n = records.len() as u64;
+    if n == 0 || n > MAX_KEYS {
+        return Err(invalid_input());
+    }
+    match ordered_buckets(alloc, records, shape.map, bucket_count(n, shape.c)) {
+        Ok(buckets) => Ok(Plan {
+            seed: SEED,
+            size: table_size(n, shape.alpha),
+            limit,
+            buckets,
+        }),
+        Err(_) => Err(out_of_memory()),
+    }
+}
+
+// The sum of the pilots, or the rank of the bucket that has none.
+fn sum_of(answer: &Result<Placed, Stuck>) -> u64 {
+    match answer {
+        Ok(placed) => {
+            let mut sum = 0u64;
+            for pilot in placed.pilots.as_slice() {
+                sum = sum.wrapping_mul(31).wrapping_add(*pilot);
+            }
+            sum
+        }
+        Err(stuck) => stuck.rank,
+    }
+}
+
+fn time_place(
+    clock: &impl Clock,
+    alloc: Global,
+    records: &[Record],
+    shape: Shape,
+    limit: u64,
+) -> io::Result<Timed>
+    requires some { 1 ≤ limit }
+    requires bound { limit ≤ MAX_PILOTS }
+{
+    let plan = plan_of(alloc, records, shape, limit)?;
+    let start = Instant::now(clock)?;
+    let answer = place(alloc, &plan);
+    let nanos = start.elapsed(clock)?.as_nanos();
+    match answer {
+        Ok(answer) => Ok(Timed {
+            nanos,
+            checksum: sum_of(&answer),
+        }),
+        Err(_) => Err(out_of_memory()),
+    }
+}
+
+fn time_rounds<R: Clock + Threads + Sync>(
+    rt: &R,
+    alloc: Global,
+    records: &[Record],
+    shape: Shape,
+) -> io::Result<Timed> {
+    let plan = plan_of(alloc, records, shape, PILOTS)?;
+    let start = Instant::now(rt)?;
+    let answer = place_rounds(rt, alloc, &plan, WORKERS);
+    let nanos = start.elapsed(rt)?.as_nanos();
+    match answer {
+        Ok(answer) => Ok(Timed {
+            nanos,
+            checksum: sum_of(&answer),
+        }),
+        Err(_) => Err(out_of_memory()),
+    }
+}
+
+// One partition after another.
+fn time_partitions(clock: &impl Clock, alloc: Global, records: &[Record]) -> io::Result<Timed> {
+    let plans = plans_of(alloc, records)?;
+    let start = Instant::now(clock)?;
+    let checksum = place_all(alloc, &plans)?;
+    let nanos = start.elapsed(clock)?.as_nanos();
+    Ok(Timed { nanos, checksum })
+}
+
+fn plans_of(alloc: Global, records: &[Record]) -> io::Result<Vec<Plan>> {
+    let cut = match partitioned(alloc, records, PARTITIONS) {
+        Ok(cut) => cut,
+        Err(_) => return Err(out_of_memory()),
+    };
+    let mut plans = Vec::new(alloc);
+    for partition in 0..cut.len() {
+        plans.push(plan_of(alloc, cut.records(partition), usual(), PILOTS)?)?;
+    }
+    Ok(plans)
+}
+
+fn place_all(alloc: Global, plans: &[Plan]) -> io::Result<u64> {
+    let mut sum = 0;
+    for plan in plans {
+        match place(alloc, plan) {
+            Ok(answer) => sum ^= sum_of(&answer),
+            Err(_) => return Err(out_of_memory()),
+        }
+    }
+    Ok(sum)
+}
+
+// The same small list again and again.
+fn time_often(clock: &impl Clock, alloc: Global, records: &[Record]) -> io::Result<Timed> {
+    let plan = plan_of(alloc, records, usual(), PILOTS)?;
+    let start = Instant::now(clock)?;
+    let mut checksum = 0u64;
+    for _ in 0..TIMES {
+        match place(alloc, &plan) {
+            Ok(answer) => checksum = checksum.wrapping_add(sum_of(&answer)),
+            Err(_) => return Err(out_of_memory()),
+        }
+    }
+    let nanos = start.elapsed(clock)?.as_nanos();
+    Ok(Timed { nanos, checksum })
+}
+
+// One bucket of these members in an empty table, whose pilots all fail where it is large.
+fn time_large(clock: &impl Clock, alloc: Global, members: &[u64]) -> io::Result<Timed> {
+    let count = members.len() as u64;
+    if count == 0 || count > MAX_KEYS {
+        return Err(invalid_input());
+    }
+    let (mut occupied, mut scratch) = match room_for(alloc, count) {
+        Ok(room) => room,
+        Err(_) => return Err(out_of_memory()),
+    };
+    let start = Instant::now(clock)?;
+    let found = place_one(SEED, LARGE_PILOTS, members, &mut occupied, &mut scratch);
+    let nanos = start.elapsed(clock)?.as_nanos();
+    Ok(Timed {
+        nanos,
+        checksum: found.unwrap_or(0),
+    })
+}
+
+fn room_for(alloc: Global, members: u64) -> Result<(Occupancy, Scratch), NoMemory>
+    requires { members ≤ MAX_POSITIONS }
+    ensures size { IfOk result (λ room. room.0.size ≡ LARGE_SIZE) }
+    ensures room { IfOk result (λ room. room.1.members ≡ members) }
+{
+    let occupied = Occupancy::new(alloc, LARGE_SIZE)?;
+    let scratch = Scratch::with(alloc, members)?;
+    Ok((occupied, scratch))
+}
