@@ -1,3 +1,4 @@
+// Bits, places and counts on small and large inputs.
 ghost use Rattle.std.specs.Prelude.{◌<◌};
 
 use super::*;

@@ -1,3 +1,4 @@
+// Spellings, faults and long lists.
 ghost use Rattle.std.specs.Prelude.{◌≡◌};
 ghost use Rattle.elias_fano.specs.Spelling.{rises};
 

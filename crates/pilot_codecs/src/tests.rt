@@ -1,3 +1,4 @@
+// Spellings and faults under all encodings.
 ghost use Rattle.std.specs.Prelude.{◌<◌, ◌^◌, ℕ, slice_index, IsTrue};
 
 use super::*;
