@@ -354,3 +354,18 @@ got_below n [] i p h e = absurd cc
 got_below n (q ∷ places) zero p h e = let same : p ≡ q = cc in
     omega (arith, ltb-true q n (Rattle.std.proofs.lemmas.Bool.and_parts (ltb q n) (are_below n places) h).0, same)
 got_below n (q ∷ places) (suc i) p h e = got_below n places i p (Rattle.std.proofs.lemmas.Bool.and_parts (ltb q n) (are_below n places) h).1 e
+
+-- a number that is present comes first
+pub present_yes : (at n : ℕ) (vs : List ℕ) → is_among at vs ≡ true → present_from at (suc n) vs ≡ at ∷ present_from (at + 1) n vs
+unfolding present_from
+present_yes at n vs t = rw t refl
+
+-- a number that is not present is passed
+pub present_no : (at n : ℕ) (vs : List ℕ) → is_among at vs ≡ false → present_from at (suc n) vs ≡ present_from (at + 1) n vs
+unfolding present_from
+present_no at n vs f = rw f refl
+
+-- no more than no numbers are present among none
+pub present_none : (at : ℕ) (vs : List ℕ) → present_from at 0 vs ≡ []
+unfolding present_from
+present_none at vs = refl
