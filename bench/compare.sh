@@ -1,10 +1,10 @@
 # What run.sh and lists.sh share: they build two programs that print nanoseconds and a checksum, and run them in turn.
 
-# build CRATE YARDSTICK: proves and builds a program of crates/, and builds its like in plain Rust.
+# build CRATE YARDSTICK LEVEL: proves and builds a program of crates/, and builds its like in plain Rust, for a level of processors.
 build() {
     yardstick=$(mktemp)
     trap 'rm -f "$yardstick"' EXIT
-    rustc --edition 2024 -O -C target-cpu=x86-64-v2 -o "$yardstick" "bench/yardstick/$2"
+    rustc --edition 2024 -O -C target-cpu="${3:-x86-64-v2}" -o "$yardstick" "bench/yardstick/$2"
     (cd "crates/$1" && rt run > /dev/null)
     rattle=crates/$1/out/$1
 }

@@ -1,12 +1,12 @@
 #!/usr/bin/env bash
-# Times select1 and EliasFano::get at random places, and each code of small numbers, beside the same code in `rustc -O`, in turn,
-# and prints two tables. Each figure is the least of three runs, or of as many as the first word says. The checksums of both
-# must agree.
+# Times select1 and EliasFano::get at random places, and each code of small numbers, beside the best plain Rust for the same work
+# (bench/yardstick/lists.rs and packed.rs), in turn, and prints two tables. Each figure is the least of three runs, or of as many
+# as the first word says. The checksums of both must agree.
 set -eu
 cd "$(dirname "$0")/.."
 runs=${1:-3}
 . bench/compare.sh
-build bench_lists lists.rs
+build bench_lists lists.rs x86-64-v3
 
 # one row: the unit, what the nanoseconds are divided by, and the words
 row() {

@@ -10,6 +10,7 @@ use Rattle.bit_vector.specs.Bits.{words_number, words_for, IsPacked}
 use Rattle.bit_vector.proofs.WordLemmas.{AreWords, words_number-lt, words_number-set, words_number-push}
 use Rattle.bit_vector.proofs.ReadLemmas.{words_number-at, from_place, shl_dropped}
 
+-- a number that leaves nothing above a power is below it
 pub below_from_div : (n k : ℕ) → n / 2 ^ k ≡ 0 → n < 2 ^ k
 below_from_div n k e =
     let h : n < n / 2 ^ k * 2 ^ k + 2 ^ k = lt-div-mul-add (pow_pos k) in
@@ -25,14 +26,17 @@ high_part ws len h count pos =
     let here : words_number ws / 2 ^ (64 * w) ≡ get_or ws w 0 = words_number-at ws w h (omega arith) ∙ omega (arith, none) in
     from_place (words_number ws) len ∙ ap (λ (m : ℕ). m / 2 ^ (len % 64)) here
 
+-- words that are full are packed
 pub packed_whole : (ws : List ℕ) (len : ℕ) → AreWords ws → length ws ≡ words_for len → len % 64 ≡ 0 → IsPacked ws len
 packed_whole ws len h count even =
     let e : 64 * length ws ≡ len = omega arith in
     record { count = count; fit = h; clear = subst (λ (j : ℕ). words_number ws < 2 ^ j) e (words_number-lt ws h) }
 
+-- no words are no bits, packed
 pub packed_none : IsPacked [] 0
 packed_none = packed_whole [] 0 (λ i. omega arith) refl refl
 
+-- words are packed where the last one has no bit behind the used ones
 pub packed_last : (ws : List ℕ) (len : ℕ) → AreWords ws → length ws ≡ words_for len → 0 < len % 64 →
     (eqb (get_or ws (len / 64) 0 / 2 ^ (len % 64)) 0 ≡ true) ↔ IsPacked ws len
 packed_last ws len h count pos =
@@ -41,9 +45,11 @@ packed_last ws len h count pos =
       λ p. eq-eqb _ _ (sym e ∙ div-eq_of_lt p.clear),
     )
 
+-- the last word of packed ones has no bit behind the used ones
 pub last_clear : (ws : List ℕ) (len : ℕ) → IsPacked ws len → 0 < len % 64 → get_or ws (len / 64) 0 < 2 ^ (len % 64)
 last_clear ws len p pos = below_from_div (get_or ws (len / 64) 0) (len % 64) (sym (high_part ws len p.fit p.count pos) ∙ div-eq_of_lt p.clear)
 
+-- a number put above another in a word keeps what fits
 pub joined : (x v s : ℕ) → x < 2 ^ s → s < 64 → bit_or x (v * 2 ^ s % 2 ^ 64) ≡ v % 2 ^ (64 - s) * 2 ^ s + x
 joined x v s clear lt =
     let back : 64 - (64 - s) ≡ s = omega arith in
@@ -51,6 +57,7 @@ joined x v s clear lt =
     subst (λ (j : ℕ). v * 2 ^ j % 2 ^ 64 ≡ v % 2 ^ (64 - s) * 2 ^ j) back (shl_dropped v (64 - s) (omega arith)) in
     ap (λ (q : ℕ). bit_or x q) shifted ∙ or_comm x (v % 2 ^ (64 - s) * 2 ^ s) ∙ or_shifted (v % 2 ^ (64 - s)) s x clear
 
+-- a value put into a word above its bits is added to the number of the words
 pub join_number : (ws : List ℕ) (w v s : ℕ) → w < length ws → s < 64 → get_or ws w 0 < 2 ^ s →
     words_number (set ws w (bit_or (get_or ws w 0) (v * 2 ^ s % 2 ^ 64))) ≡ words_number ws + v % 2 ^ (64 - s) * 2 ^ (64 * w + s)
 join_number ws w v s lt less clear =
@@ -62,12 +69,14 @@ join_number ws w v s lt less clear =
     let p = ap (λ (q : ℕ). t * q) (pow-add 2 (64 * w) s) in
     omega (arith, e, j, p)
 
+-- one word more leaves all of them words
 pub AreWords-push : (ws : List ℕ) (v : ℕ) → AreWords ws → v < 2 ^ 64 → AreWords (ws ++ v ∷ [])
 AreWords-push [] v h lt zero = lt
 AreWords-push [] v h lt (suc i) = omega arith
 AreWords-push (x ∷ ws) v h lt zero = h 0
 AreWords-push (x ∷ ws) v h lt (suc i) = AreWords-push ws v (λ j. h (suc j)) lt i
 
+-- a number put above another is below the power of both lengths
 pub sum_lt : (n v len width : ℕ) → n < 2 ^ len → v < 2 ^ width → n + v * 2 ^ len < 2 ^ (len + width)
 sum_lt n v len width nlt vlt =
     let p = pow-add 2 len width in
@@ -80,6 +89,7 @@ push_whole ws len v p even =
     let e : 64 * length ws ≡ len = omega (arith, p.count) in
     words_number-push ws v ∙ subst (λ (j : ℕ). words_number ws + 2 ^ (64 * length ws) * v ≡ words_number ws + v * 2 ^ j) e (omega arith)
 
+-- words of the right number and length are packed
 pub packed_from : (ws new : List ℕ) (len v width : ℕ) → IsPacked ws len → v < 2 ^ width → length new ≡ words_for (len + width) → AreWords new →
     words_number new ≡ words_number ws + v * 2 ^ len → IsPacked new (len + width)
 packed_from ws new len v width p fits count fit e =
@@ -106,6 +116,7 @@ join_across ws len v n p pos e =
     let parts = ap (λ (q : ℕ). q * 2 ^ len) (mod-add-div v (2 ^ k)) in
     omega (arith, e, words_number-push ws (v / 2 ^ k), low, high, parts)
 
+-- a word that is replaced leaves all of them words
 pub AreWords-set : (ws : List ℕ) (i y : ℕ) → AreWords ws → y < 2 ^ 64 → AreWords (set ws i y)
 AreWords-set [] i y h lt j = h j
 AreWords-set (x ∷ ws) zero y h lt zero = lt
@@ -118,9 +129,11 @@ pub record IsAppended (ws new : List ℕ) (len v width : ℕ) : Type 0 where
   pub number : words_number new ≡ words_number ws + v * 2 ^ len
   pub packed : IsPacked new (len + width)
 
+-- a word with a value put above its bits is a word
 word_lt : (x v s : ℕ) → x < 2 ^ 64 → bit_or x (v * 2 ^ s % 2 ^ 64) < 2 ^ 64
 word_lt x v s lt = or_lt 64 x (v * 2 ^ s % 2 ^ 64) lt (omega arith)
 
+-- a value behind full words is a word of its own
 pub appended_whole : (ws new : List ℕ) (len v width : ℕ) → IsPacked ws len → len % 64 ≡ 0 → 0 < width → width ≤ 64 → v < 2 ^ width → v < 2 ^ 64 →
     new ≡ ws ++ v ∷ [] → IsAppended ws new len v width
 appended_whole ws new len v width p even some wide fits small e =
@@ -130,6 +143,7 @@ appended_whole ws new len v width p even some wide fits small e =
     record { number = number; packed = packed_from ws (ws ++ v ∷ []) len v width p fits count (AreWords-push ws v p.fit small) number } in
     subst (λ (new : List ℕ). IsAppended ws new len v width) (sym e) whole
 
+-- a value that fits the last word is put into it
 pub appended_within : (ws : List ℕ) (len v width x : ℕ) → IsPacked ws len → 0 < len % 64 → len % 64 + width ≤ 64 → v < 2 ^ width → x ≡ get_or ws (len / 64) x →
     IsAppended ws (set ws (len / 64) (bit_or x (v * 2 ^ (len % 64) % 2 ^ 64))) len v width
 appended_within ws len v width x p pos le fits e =
@@ -147,6 +161,7 @@ appended_within ws len v width x p pos le fits e =
       packed = packed_from ws new len v width p fits count fit number;
     })
 
+-- a value that doesn't fit the last word goes on in a new one
 pub appended_across : (ws more : List ℕ) (len v width x : ℕ) → IsPacked ws len → 0 < len % 64 → 64 < len % 64 + width → width ≤ 64 → v < 2 ^ width → v < 2 ^ 64
     → more ≡ ws ++ v / 2 ^ (64 - len % 64) ∷ [] → x ≡ get_or more (len / 64) x →
     IsAppended ws (set more (len / 64) (bit_or x (v * 2 ^ (len % 64) % 2 ^ 64))) len v width

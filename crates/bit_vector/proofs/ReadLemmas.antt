@@ -7,9 +7,11 @@ use Rattle.std.proofs.lemmas.List.{drop_more}
 use Rattle.bit_vector.specs.Bits.{words_number}
 use Rattle.bit_vector.proofs.WordLemmas.{AreWords, words_number-drop}
 
+-- a mask of the lowest bits leaves the rest by their power
 pub low_mask : (word width : ℕ) → width < 64 → bit_and word (1 * 2 ^ width % 2 ^ 64 - 1) ≡ word % 2 ^ width
 low_mask word width lt = ap (λ (q : ℕ). bit_and word (q - 1)) (one_shl width 64 lt) ∙ and_mask word width
 
+-- a power is one of its parts times the other
 pub power_split : (j k : ℕ) → k ≤ j → 2 ^ j ≡ 2 ^ k * 2 ^ (j - k)
 power_split j k le = ap (λ (i : ℕ). 2 ^ i) (omega arith) ∙ pow-add 2 k (j - k)
 
@@ -20,6 +22,7 @@ mod-add-multiple a q j k le =
     let f : a + 2 ^ j * q ≡ a + 2 ^ k * (2 ^ (j - k) * q) = omega (arith, e) in
     ap (λ (x : ℕ). x % 2 ^ k) f ∙ add-mul-mod_self_left a (2 ^ k) (2 ^ (j - k) * q)
 
+-- a multiple of a higher power is divided on its own
 pub div-add-multiple : (a q j k : ℕ) → k ≤ j → (a + 2 ^ j * q) / 2 ^ k ≡ a / 2 ^ k + 2 ^ (j - k) * q
 div-add-multiple a q j k le =
     let e = ap (λ (x : ℕ). x * q) (power_split j k le) in
@@ -30,20 +33,24 @@ div-add-multiple a q j k le =
 low_field : (x z s width : ℕ) → s + width ≤ 64 → (x + 2 ^ 64 * z) / 2 ^ s % 2 ^ width ≡ x / 2 ^ s % 2 ^ width
 low_field x z s width le = ap (λ (m : ℕ). m % 2 ^ width) (div-add-multiple x z 64 s (omega arith)) ∙ mod-add-multiple (x / 2 ^ s) z (64 - s) width (omega arith)
 
+-- what a number has from a word's place on is that word and what is above it
 pub words_number-at : (ws : List ℕ) (w : ℕ) → AreWords ws → w < length ws →
     words_number ws / 2 ^ (64 * w) ≡ get_or ws w 0 + 2 ^ 64 * words_number (drop (w + 1) ws)
 unfolding words_number
 words_number-at ws w h lt = sym (words_number-drop w ws h) ∙ ap words_number (drop_more ws w 0 lt)
 
+-- a place is a word and a place in it
 pub from_place : (n at : ℕ) → n / 2 ^ at ≡ n / 2 ^ (64 * (at / 64)) / 2 ^ (at % 64)
 from_place n at = ap (λ (j : ℕ). n / 2 ^ j) (omega arith) ∙ sym (shr-shr n (64 * (at / 64)) (at % 64))
 
+-- bits inside one word are read from it
 pub bits_inside : (ws : List ℕ) (at width : ℕ) → AreWords ws → at / 64 < length ws → at % 64 + width ≤ 64 →
     get_or ws (at / 64) 0 / 2 ^ (at % 64) % 2 ^ width ≡ words_number ws / 2 ^ at % 2 ^ width
 bits_inside ws at width h lt le =
     let e = from_place (words_number ws) at ∙ ap (λ (m : ℕ). m / 2 ^ (at % 64)) (words_number-at ws (at / 64) h lt) in
     sym (ap (λ (m : ℕ). m % 2 ^ width) e ∙ low_field (get_or ws (at / 64) 0) (words_number (drop (at / 64 + 1) ws)) (at % 64) width le)
 
+-- a shift to the left drops the highest bits
 pub shl_dropped : (y s : ℕ) → s ≤ 64 → y * 2 ^ (64 - s) % 2 ^ 64 ≡ y % 2 ^ s * 2 ^ (64 - s)
 shl_dropped y s le =
     let n = y * 2 ^ (64 - s) in
@@ -70,6 +77,7 @@ two_words x y z s width xlt pos lt le =
     ap (λ (q : ℕ). q % 2 ^ width) joined
     ∙ sym (ap (λ (q : ℕ). q % 2 ^ width) (shifted ∙ sum) ∙ mod-add-multiple (y % 2 ^ s * p + x / 2 ^ s) (y / 2 ^ s + p * z) 64 width le)
 
+-- bits across two words are the end of one and the beginning of the next
 pub bits_across : (ws : List ℕ) (at width : ℕ) → AreWords ws → at / 64 + 1 < length ws → 0 < at % 64 → width ≤ 64 →
     bit_or (get_or ws (at / 64) 0 / 2 ^ (at % 64)) (get_or ws (at / 64 + 1) 0 * 2 ^ (64 - at % 64) % 2 ^ 64) % 2 ^ width
     ≡ words_number ws / 2 ^ at % 2 ^ width

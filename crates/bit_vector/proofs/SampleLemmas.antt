@@ -20,19 +20,24 @@ use Rattle.bit_vector.proofs.BitLemmas.{slice_get-places_from}
 use Rattle.bit_vector.proofs.WordLemmas.{AreWords, words_number-take, count_ones-words}
 use Rattle.bit_vector.proofs.ReadLemmas.{words_number-at, mod-add-multiple, bits_inside}
 
+-- zero has no ones
 pub no_ones : count_ones 0 ≡ 0
 no_ones = unfold count_ones in refl
 
+-- the words after the first are words
 AreWords-rest : (w : ℕ) (ws : List ℕ) → AreWords (w ∷ ws) → AreWords ws
 AreWords-rest w ws h i = h (suc i)
 
+-- words have at most 64 ones each
 pub all_ones-le : (ws : List ℕ) → AreWords ws → all_ones ws ≤ 64 * length ws
 all_ones-le [] h = omega arith
 all_ones-le (w ∷ ws) h = omega (arith, sum_by-cons count_ones w ws, ones-le 64 w (h 0), all_ones-le ws (AreWords-rest w ws h))
 
+-- so have the first of them
 pub all_ones-take-le : (ws : List ℕ) (k : ℕ) → AreWords ws → all_ones (take k ws) ≤ 64 * length ws
 all_ones-take-le ws k h = omega (arith, sum_by-take-le count_ones ws k, all_ones-le ws h)
 
+-- one word more adds its ones
 pub all_ones-more : (ws : List ℕ) (k : ℕ) → k < length ws → all_ones (take (k + 1) ws) ≡ all_ones (take k ws) + count_ones (get_or ws k 0)
 all_ones-more ws k lt = sum_by_more count_ones ws k 0 lt
 
@@ -40,12 +45,14 @@ all_ones-more ws k lt = sum_by_more count_ones ws k 0 lt
 pub ones_cut : (n j k : ℕ) → count_ones (n % 2 ^ (j + k)) ≡ count_ones (n / 2 ^ k % 2 ^ j) + count_ones (n % 2 ^ k)
 ones_cut n j k = ap count_ones (mod-pow-add n j k) ∙ ones_cat k (n / 2 ^ k % 2 ^ j) (n % 2 ^ k) (mod_below n (2 ^ k) (pow_pos k))
 
+-- the first words are words
 AreWords-take : (k : ℕ) (ws : List ℕ) → AreWords ws → AreWords (take k ws)
 AreWords-take zero ws h i = omega arith
 AreWords-take (suc k) [] h i = omega arith
 AreWords-take (suc k) (w ∷ ws) h zero = h 0
 AreWords-take (suc k) (w ∷ ws) h (suc i) = AreWords-take k ws (AreWords-rest w ws h) i
 
+-- the lowest bits from a word's place on are those of the word
 word_at : (ws : List ℕ) (w s : ℕ) → AreWords ws → 64 * w + s ≤ 64 * length ws → s < 64 → words_number ws / 2 ^ (64 * w) % 2 ^ s ≡ get_or ws w 0 % 2 ^ s
 word_at ws w s h le lt =
     elim (cases_lt w (length ws)) [
@@ -56,6 +63,7 @@ word_at ws w s h le lt =
           rw none (mod-one (words_number ws / 2 ^ (64 * w)) ∙ sym (mod-one (get_or ws w 0)))
     ]
 
+-- the ones below a place are those of the words before and of the word's lowest bits
 pub ones_below_place : (ws : List ℕ) (at : ℕ) → AreWords ws → at ≤ 64 * length ws →
     count_ones (words_number ws % 2 ^ at) ≡ all_ones (take (at / 64) ws) + count_ones (get_or ws (at / 64) 0 % 2 ^ (at % 64))
 ones_below_place ws at h le =
@@ -79,10 +87,12 @@ one_among ws w q r i p h lt less here e at =
     let before : all_ones (take (p / 64) ws) + count_ones (get_or ws (p / 64) 0 % 2 ^ (p % 64)) ≡ i = rw (word, bit, here.before) e in
     record { one = sym inside ∙ one; before = ones_below_place ws p h (omega arith) ∙ before }
 
+-- the counts that are due before a word
 pub record IsSoFar (words counts : List ℕ) (at : ℕ) : Type 0 where
   pub len : length counts ≡ (at + 7) / 8
   pub before : (b : ℕ) → b < length counts → get_or counts b 0 ≡ all_ones (take (8 * b) words)
 
+-- at the first word of a block a count is due
 pub count_pushed : (words counts new : List ℕ) (at total : ℕ) → at % 8 ≡ 0 → IsSoFar words counts at → total ≡ all_ones (take at words) →
     new ≡ counts ++ total ∷ [] → IsSoFar words new (at + 1)
 count_pushed words counts new at total even so_far t e =
@@ -99,28 +109,34 @@ count_pushed words counts new at total even so_far t e =
     } in
     subst (λ (l : List ℕ). IsSoFar words l (at + 1)) (sym e) more
 
+-- at any other word none is
 pub count_kept : (words counts : List ℕ) (at : ℕ) → (at % 8 ≡ 0 → ⊥) → IsSoFar words counts at → IsSoFar words counts (at + 1)
 count_kept words counts at odd so_far = record { len = omega (arith, so_far.len); before = so_far.before }
 
 -- ---- packed bits
 
+-- as many words as asked for are taken from a number
 length-words_from : (k n : ℕ) → length (words_from k n) ≡ k
 unfolding words_from
 length-words_from zero n = refl
 length-words_from (suc k) n = ap suc (length-words_from k (n / 2 ^ 64))
 
+-- bits take just the words that they need
 pub length-packed : (bits : List Bool) → length (packed bits) ≡ words_for (length bits)
 length-packed bits = length-words_from (words_for (length bits)) (number_of bits)
 
+-- what is taken from a number are words
 AreWords-words_from : (k n : ℕ) → AreWords (words_from k n)
 unfolding words_from
 AreWords-words_from zero n i = omega arith
 AreWords-words_from (suc k) n zero = mod_below n (2 ^ 64) (omega arith)
 AreWords-words_from (suc k) n (suc i) = AreWords-words_from k (n / 2 ^ 64) i
 
+-- what bits are packed into are words
 pub AreWords-packed : (bits : List Bool) → AreWords (packed bits)
 AreWords-packed bits = AreWords-words_from (words_for (length bits)) (number_of bits)
 
+-- the words of a number stand for its rest
 words_number-words_from : (k n : ℕ) → words_number (words_from k n) ≡ n % 2 ^ (64 * k)
 unfolding words_number words_from
 words_number-words_from zero n = sym (mod-one n)
@@ -129,16 +145,19 @@ words_number-words_from (suc k) n =
     ∙ mod-pow-add n (64 * k) 64 in
     omega (arith, parts, words_number-words_from k (n / 2 ^ 64))
 
+-- packed bits stand for their number
 pub words_number-packed : (bits : List Bool) → words_number (packed bits) ≡ number_of bits
 words_number-packed bits =
     let room : 2 ^ length bits ≤ 2 ^ (64 * words_for (length bits)) = Rattle.std.proofs.Math.Nat.pow-le-pow_right (omega arith) (omega arith) in
     words_number-words_from (words_for (length bits)) (number_of bits) ∙ mod-eq_of_lt (omega (arith, number_of-lt bits))
 
+-- the ones among the first bits are those of the number's rest
 pub ones-take : (bits : List Bool) (at : ℕ) → at ≤ length bits → ones (take at bits) ≡ count_ones (number_of bits % 2 ^ at)
 ones-take bits at le =
     ap (λ (bs : List Bool). ones (take at bs)) (sym (bits_of-number_of bits)) ∙ ap ones (take-bits_of at (length bits) (number_of bits) le)
     ∙ ones-bits_of at (number_of bits)
 
+-- packing keeps the ones
 pub all_ones-packed : (bits : List Bool) → all_ones (packed bits) ≡ ones bits
 all_ones-packed bits =
     sym (count_ones-words (packed bits) (AreWords-packed bits)) ∙ ap count_ones (words_number-packed bits ∙ sym (mod-eq_of_lt (number_of-lt bits)))
@@ -146,11 +165,13 @@ all_ones-packed bits =
 
 -- ---- the place of a one in the list
 
+-- nothing stands past the end
 slice_get-past : (xs : List ℕ) (i : ℕ) → length xs ≤ i → slice_get xs i ≡ None
 slice_get-past [] i le = refl
 slice_get-past (x ∷ xs) zero le = absurd (omega arith)
 slice_get-past (x ∷ xs) (suc i) le = slice_get-past xs i (omega arith)
 
+-- a set bit of a number is below its length
 within_bits : (n len p : ℕ) → n < 2 ^ len → bit_at n p ≡ 1 → p < len
 within_bits n len p lt one =
     elim (cases_lt p len) [
@@ -161,6 +182,7 @@ within_bits n len p lt one =
           absurd (omega (arith, one, none))
     ]
 
+-- the one of a number stands at that index of the places
 one_found : (bits : List Bool) (i p : ℕ) → IsOneAt (number_of bits) i p → slice_get (places bits) i ≡ Some p
 one_found bits i p at =
     let n = number_of bits in
@@ -169,6 +191,7 @@ one_found bits i p at =
     ∙ eq-eqb (bit_at n p) 1 at.one in
     slice_get-places_from 0 bits p i lt there (ones-take bits p (omega arith) ∙ at.before) ∙ ap Some (omega arith)
 
+-- a place that is found, or none, is what stands at that index of the places
 pub select_is : (bits : List Bool) (i : ℕ) (r : Option ℕ) → MatchOption r (all_ones (packed bits) ≤ i) (λ p. IsOneAt (words_number (packed bits)) i p) →
     r ≡ slice_get (places bits) i
 select_is bits i None h = sym (slice_get-past (places bits) i (omega (arith, length-places_from 0 bits, all_ones-packed bits, h)))

@@ -63,6 +63,7 @@ set_word ws len at p lt =
     let same = ap (λ (q : ℕ). q * 2 ^ at) bit in
     omega (arith, words, one, place, times, list, same, whole)
 
+-- words in which one bit more is set
 pub record IsSet (ws new : List ℕ) (len at : ℕ) : Type 0 where
   pub packed : IsPacked new len
   pub bits : bits_of len (words_number new) ≡ set (bits_of len (words_number ws)) at true

@@ -1,3 +1,4 @@
+// A list of bits, packed into words.
 ghost use Rattle.std.specs.Prelude.{◌≡◌, ◌+◌, ◌*◌, ◌^◌, ◌<◌, ◌≤◌, ◌++◌, ◌↔◌, List, [], Bool, true, false, length, take, drop, replicate, slice_index_or, slice_set, OnOk, OnErr, IfOk, IfSome, IsSome};
 ghost use Rattle.bit_vector.specs.Bits.{bits_of, bits_of_each, number_of, words_number, packed, IsPacked};
 

@@ -1,3 +1,4 @@
+// Counts and places of ones, with samples that bound the walk over the words.
 ghost use Rattle.std.specs.Prelude.{◌≡◌, ℕ, ◌+◌, ◌*◌, ◌%◌, ◌^◌, ◌<◌, ◌≤◌, ◌⊎◌, length, take, slice_index, IfOk, MatchOption};
 ghost use Rattle.std.specs.Int.RustNames.{count_ones};
 ghost use Rattle.bit_vector.specs.Bits.{words_number};

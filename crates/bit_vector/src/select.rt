@@ -1,3 +1,4 @@
+// Bits with the place of each one and the count of ones before a place.
 ghost use Rattle.std.specs.Prelude.{◌≡◌, ◌≤◌, List, Bool, length, take, IfOk};
 ghost use Rattle.std.specs.List.{slice_get};
 ghost use Rattle.bit_vector.specs.Bits.{ones, places};

@@ -1,3 +1,4 @@
+// Bits, places and counts on small and large inputs.
 ghost use Rattle.std.specs.Prelude.{◌<◌};
 
 use super::*;
@@ -80,6 +81,26 @@ fn many_bits(rt: HostRuntime) -> Result<(), Fail> {
             assert_eq!(rt; selector.select1(i), Some(i * step), "{len} {step} {i}");
         }
         assert_eq!(rt; selector.select1(len.div_ceil(step)), None);
+    }
+    Ok(())
+}
+
+#[test]
+fn the_next_one(rt: HostRuntime) -> Result<(), Fail> {
+    // Length, and every so many a one: the next one by a walk, and by a count and a select.
+    for (len, step) in [(1, 1), (64, 64), (130, 65), (1_000, 63), (2_000, 997)] {
+        if step == 0 {
+            return Err("a step is above 0".into());
+        }
+        let selector = Selector::new(rt.alloc(), every(&rt, rt.alloc(), len, step)?)?;
+        for from in 0..len {
+            assert!(rt; from <= selector.bits().len());
+            let next = from.div_ceil(step).saturating_mul(step);
+            let found = if next < len { Some(next) } else { None };
+            assert_eq!(rt; selector.next1(from), found, "{len} {step} {from}");
+            let counted = selector.select1(selector.rank1(from));
+            assert_eq!(rt; counted, found, "{len} {step} {from}");
+        }
     }
     Ok(())
 }

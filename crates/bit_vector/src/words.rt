@@ -1,3 +1,4 @@
+// Bits in words: read, appended and looked at.
 ghost use Rattle.std.specs.Prelude.{◌≡◌, ◌+◌, ◌*◌, ◌-◌, ◌/◌, ◌%◌, ◌^◌, ◌<◌, ◌≤◌, ◌++◌, ◌↔◌, length, take, replicate, IfOk, IsTrue, OnOk, OnErr};
 ghost use Rattle.bit_vector.specs.Bits.{words_number, bits_of_each, packed, IsPacked};
 

@@ -89,6 +89,7 @@ high_step w n vs i high lt within e =
     ∙ ap (λ (ps : List ℕ). marks 0 n ps) (sym (high_places-push w 0 (take i vs) v))
     ∙ ap (λ (xs : List ℕ). marks 0 n (high_places w 0 xs)) (sym (take_more vs i 0 lt))
 
+-- what follows from what holds of an Ok holds of it
 pub on_ok-map : (r : Result (Unit {0}) NoMemory) (A B : Type 0) → (A → B) → OnOk r A → OnOk r B
 on_ok-map (Ok x) A B f a = f a
 on_ok-map (Err e) A B f a = tt
@@ -104,6 +105,7 @@ built vs last w low high r few l small wide lows highs =
     rw (lows, highs, l, w-is)
     (record { parts = p.0; fits = rising.fits; rising = ap (λ (xs : List ℕ). rises 0 xs) p.1 ∙ r; last_is = ap (λ (xs : List ℕ). last_of 0 xs) p.1 }, p.1)
 
+-- what is above the low bits of the last value is at most twice the greatest count
 pub last_high : (count last w : ℕ) → (0 < count → last / 2 ^ w ≤ 2 * count) → (count ≡ 0 → last ≡ 0) → count ≤ 2 ^ 36 → last / 2 ^ w ≤ 2 ^ 37
 last_high count last w some none few =
     elim (cases_lt 0 count) [
@@ -111,5 +113,6 @@ last_high count last w some none few =
       | inr le ↦ omega (arith, ap (λ (x : ℕ). x / 2 ^ w) (none (omega arith)), Rattle.std.proofs.Math.Nat.zero-div (2 ^ w))
     ]
 
+-- an empty list ends at its bound
 pub last_of-none : (vs : List ℕ) → length vs ≡ 0 → last_of 0 vs ≡ 0
 last_of-none vs e = ap (λ (xs : List ℕ). last_of 0 xs) (nil_from_length vs e) ∙ last_of-nil 0

@@ -37,13 +37,16 @@ pub guard_ok : {B : Type 0} (b : Bool) (d : FormFault) (r : Result B FormFault) 
 guard_ok true d r y e = absurd cc
 guard_ok false d r y e = (refl, e)
 
+-- a test at the end that did not fail
 pub guard_last : {B : Type 0} (b : Bool) (d : FormFault) (x y : B) → cond b (Ok x) (Err d) ≡ Ok y → (b ≡ true) × (x ≡ y)
 guard_last true d x y e = (refl, cc)
 guard_last false d x y e = absurd cc
 
+-- what is read without a fault
 abbrev pub done : {A : Type 0} → A → Result A FormFault
 done x = Ok x
 
+-- two readings that are the same have the same value
 pub ok_is : {A : Type 0} (x y : A) → done x ≡ done y → x ≡ y
 ok_is x y e = cc
 
@@ -52,9 +55,11 @@ pub record Takes (bytes text rest : List ℕ) : Type 0 where
   pub parts : bytes ≡ text ++ rest
   pub rest_fits : IsBytes rest
 
+-- two texts that are taken one after the other are taken as one
 pub Takes-then : (a x b y c : List ℕ) → Takes a x b → Takes b y c → Takes a (x ++ y) c
 Takes-then a x b y c p q = record { parts = p.parts ∙ ap (λ (t : List ℕ). x ++ t) q.parts ∙ sym (append_assoc x y c); rest_fits = q.rest_fits }
 
+-- a number that is read stood there as its spelling
 pub number_takes : (at : ℕ) (bytes : List ℕ) (n : ℕ) (rest : List ℕ) → IsBytes bytes → number_at at bytes ≡ Ok (n, rest) →
     Takes bytes (number n) rest × (n < 2 ^ 64)
 unfolding number_at
@@ -72,11 +77,13 @@ number_takes at bytes n rest fits e =
       subst (λ (m : ℕ). m < 2 ^ 64) n-is (number_lt (take 8 bytes) (IsBytes-take 8 bytes fits)),
     )
 
+-- the spelling of a number is read as that number
 pub number_again : (at n : ℕ) (rest : List ℕ) → n < 2 ^ 64 → number_at at (number n ++ rest) ≡ Ok (n, rest)
 number_again at n rest lt =
     let e = number_at-ok at (number n ++ rest) n (omega (arith, length-append (number n) rest)) (sym (from_le_bytes-to_le_bytes_8 n lt)) in
     e ∙ ap (λ (t : List ℕ). Ok (n, t)) (take_rest (number n ++ rest) 8)
 
+-- words that are read are spelled by the bytes that they were
 pub words_written : (k : ℕ) (bytes : List ℕ) → IsBytes bytes → 8 * k ≤ length bytes → flat_map number (words_in k bytes) ++ drop (8 * k) bytes ≡ bytes
 unfolding words_in
 words_written zero bytes fits le = refl
@@ -91,6 +98,7 @@ words_written (suc k) bytes fits le =
     ∙ ap (λ (t : List ℕ). t ++ drop 8 bytes) front
     ∙ take-append-drop 8 bytes
 
+-- the spelling of words is read as these words
 pub words_again : (ws rest : List ℕ) → ((i : ℕ) → get_or ws i 0 < 2 ^ 64) → words_in (length ws) (flat_map number ws ++ rest) ≡ ws
 unfolding words_in
 words_again [] rest fits = refl
@@ -98,10 +106,12 @@ words_again (w ∷ ws) rest fits =
     ap (λ (x : ℕ). x ∷ words_in (length ws) (flat_map number ws ++ rest)) (from_le_bytes-to_le_bytes_8 w (fits 0))
     ∙ ap (λ (xs : List ℕ). w ∷ xs) (words_again ws rest (λ i. fits (suc i)))
 
+-- each number takes 8 bytes
 pub length-numbers : (ws : List ℕ) → length (flat_map number ws) ≡ 8 * length ws
 length-numbers [] = refl
 length-numbers (w ∷ ws) = omega (arith, length-append (number w) (flat_map number ws), length-numbers ws)
 
+-- a run that is read stood there as its spelling
 pub run_takes : (at len : ℕ) (bytes : List ℕ) (bits : List Bool) (rest : List ℕ) → IsBytes bytes → run_at at len bytes ≡ Ok (bits, rest) →
     Takes bytes (run bits) rest × (length bits ≡ len)
 unfolding run_at run
@@ -123,6 +133,7 @@ run_takes at len bytes bits rest fits e =
     subst (λ (t : List ℕ). Takes bytes (flat_map number (packed bits)) t × (length bits ≡ len)) rest-is
     (subst (λ (bs : List Bool). Takes bytes (flat_map number (packed bs)) (drop (8 * count) bytes) × (length bs ≡ len)) bits-is (taken, length-bits_of len n))
 
+-- the spelling of a run is read as that run
 pub run_again : (at : ℕ) (bits : List Bool) (rest : List ℕ) → run_at at (length bits) (run bits ++ rest) ≡ Ok (bits, rest)
 unfolding run
 run_again at bits rest =
@@ -144,6 +155,7 @@ pub record IsTaken (bytes : List ℕ) (count : ℕ) (vs rest : List ℕ) : Type 
   pub count_is : length vs ≡ count
   pub parts : bytes ≡ ef_text vs ++ rest
 
+-- bits that are read without a fault are the spelling of a list that rises
 parts_take : (at count last : ℕ) (bytes vs rest : List ℕ) → IsBytes bytes → count ≤ 2 ^ 36 → last < 2 ^ 64 →
     parts_at at count last (low_width count last) bytes ≡ Ok (vs, rest) →
     IsRising vs × (length vs ≡ count) × (number last ++ bytes ≡ ef_text vs ++ rest)
@@ -188,6 +200,7 @@ parts_take at count last bytes vs rest fits few small e =
     subst (λ (p : List ℕ × List ℕ). IsRising p.0 × (length p.0 ≡ count) × (number last ++ bytes ≡ ef_text p.0 ++ p.1)) both-are
     (subst (λ (xs : List ℕ). IsRising xs × (length xs ≡ count) × (number last ++ bytes ≡ ef_text xs ++ b.0.1)) k.1 made)
 
+-- a list that is read stood there as its spelling
 pub list_takes : (at count : ℕ) (bytes vs rest : List ℕ) → IsBytes bytes → count ≤ 2 ^ 36 → list_at at count bytes ≡ Ok (vs, rest) → IsTaken bytes count vs rest
 unfolding list_at
 list_takes at count bytes vs rest fits few e =
@@ -198,6 +211,7 @@ list_takes at count bytes vs rest fits few e =
     let p = parts_take at count a.0.0 a.0.1 vs rest t.0.rest_fits few t.1 g.1 in
     record { rising = p.0; count_is = p.1; parts = t.0.parts ∙ p.2 }
 
+-- the spelling of a list is read as that list
 pub list_again : (at : ℕ) (vs rest : List ℕ) → IsRising vs → list_at at (length vs) (ef_text vs ++ rest) ≡ Ok (vs, rest)
 unfolding ef_text
 list_again at vs rest r =
@@ -232,6 +246,7 @@ pub fails_not : {X Y : Type 0} (e : ReadErr) (read : Result X FormFault) (x : X)
 fails_not errors.NoMemory read x y r h = tt
 fails_not (errors.Form f) read x y r h = absurd cc
 
+-- a run has the length that was asked for
 pub run_len : (at len : ℕ) (bytes : List ℕ) (bits : List Bool) (rest : List ℕ) → run_at at len bytes ≡ Ok (bits, rest) → length bits ≡ len
 unfolding run_at
 run_len at len bytes bits rest e =
@@ -251,6 +266,7 @@ rest_place bytes text rest at le e =
       sym (sym (drop-drop (length text) at bytes) ∙ ap (λ (t : List ℕ). drop (length text) t) e ∙ drop_at text rest (length text) refl),
     )
 
+-- what is taken at a place is spelled there
 pub spelled_at : (bytes : List ℕ) (at count : ℕ) (vs rest : List ℕ) → at ≤ length bytes → IsTaken (drop at bytes) count vs rest →
     (length rest ≤ length bytes) × IsSpelled bytes at count vs (length bytes - length rest) × (rest ≡ drop (length bytes - length rest) bytes)
 spelled_at bytes at count vs rest le t =
@@ -262,12 +278,14 @@ spelled_at bytes at count vs rest le t =
       behind,
     )
 
+-- what is spelled at a place is read there
 pub spelled_again : (bytes : List ℕ) (at count : ℕ) (vs : List ℕ) (next : ℕ) → IsSpelled bytes at count vs next →
     list_at at count (drop at bytes) ≡ Ok (vs, drop next bytes)
 spelled_again bytes at count vs next s =
     ap (λ (k : ℕ). list_at at k (drop at bytes)) (sym s.count_is) ∙ ap (λ (t : List ℕ). list_at at (length vs) t) s.text
     ∙ list_again at vs (drop next bytes) s.rising
 
+-- what is spelled at a place is what is read there
 pub spelled_same : (bytes : List ℕ) (at count : ℕ) (vs : List ℕ) (next : ℕ) (us rest : List ℕ) → IsSpelled bytes at count vs next →
     list_at at count (drop at bytes) ≡ Ok (us, rest) → at ≤ length bytes →
     done {A = List ℕ × ℕ} (vs, next) ≡ Ok (us, length bytes - length rest)
@@ -279,6 +297,7 @@ spelled_same bytes at count vs next us rest s e le =
     let place : next ≡ length bytes - length rest = omega (arith, n.0, s.next_is, ap length after) in
     ap (λ (x : List ℕ). done {A = List ℕ × ℕ} (x, next)) same ∙ ap (λ (k : ℕ). done {A = List ℕ × ℕ} (us, k)) place
 
+-- only one list of a count is spelled at a place
 pub spelled_once : (bytes : List ℕ) (at count : ℕ) (vs us : List ℕ) (m n : ℕ) → IsSpelled bytes at count vs m → IsSpelled bytes at count us n →
     (vs ≡ us) × (m ≡ n)
 spelled_once bytes at count vs us m n s t =

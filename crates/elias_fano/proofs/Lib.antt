@@ -5,4 +5,5 @@ pub mod TextLemmas
 pub mod BuildLemmas
 pub mod FormLemmas
 pub mod LawLemmas
+pub mod ShortLemmas
 pub mod CallerLemmas

@@ -11,6 +11,7 @@ use Rattle.elias_fano.specs.Spelling.{last_of, rises, high_places, is_among, mar
 use Rattle.elias_fano.specs.Values.{joined, values_of, AreParts, AreValues}
 use Rattle.elias_fano.proofs.ValueLemmas.{low-lt, length-joined, rises-parts, rises-yes, bound-le-last}
 
+-- the low bits of joined values are these low bits
 pub bits_of_each-joined : (w k : ℕ) (ps : List ℕ) (low : List Bool) → length low ≡ length ps * w → bits_of_each w (joined w k ps low) ≡ low
 unfolding bits_of_each joined
 bits_of_each-joined w k [] low e = sym (Rattle.std.proofs.lemmas.List.nil_from_length low (omega (arith, e)))
@@ -23,6 +24,7 @@ bits_of_each-joined w k (p ∷ ps) low e =
     ap (λ (bs : List Bool). bs ++ bits_of_each w (joined w (k + 1) ps (drop w low))) first ∙ ap (λ (bs : List Bool). take w low ++ bs) others
     ∙ take-append-drop w low
 
+-- the places of joined values are these places
 pub high_places-joined : (w k at : ℕ) (bs low : List Bool) → k ≤ at → high_places w k (joined w k (places_from at bs) low) ≡ places_from at bs
 unfolding high_places joined places_from
 high_places-joined w k at [] low le = refl
@@ -47,6 +49,7 @@ marks-passed at zero p ps lt = refl
 marks-passed at (suc n) p ps lt =
     rw (ne_eqb at p (λ e. omega (arith, e))) (ap (λ (bs : List Bool). is_among at ps ∷ bs) (marks-passed (at + 1) n p ps (omega arith)))
 
+-- marks at the places of the ones are the bits
 pub marks-places_from : (at : ℕ) (bs : List Bool) → marks at (length bs) (places_from at bs) ≡ bs
 unfolding marks is_among places_from
 marks-places_from at [] = refl
@@ -56,6 +59,7 @@ marks-places_from at (true ∷ bs) =
 marks-places_from at (false ∷ bs) =
     rw (is_among-before at (at + 1) bs (omega arith)) (ap (λ (cs : List Bool). false ∷ cs) (marks-places_from (at + 1) bs))
 
+-- values are joined from their places and low bits
 pub joined-high_places : (w k : ℕ) (vs : List ℕ) → joined w k (high_places w k vs) (bits_of_each w vs) ≡ vs
 unfolding joined high_places bits_of_each
 joined-high_places w k [] = refl
@@ -71,16 +75,19 @@ joined-high_places w k (v ∷ vs) =
     ∙ ap (λ (bs : List Bool). v ∷ joined w (k + 1) (high_places w (k + 1) vs) bs) rest
     ∙ ap (λ (xs : List ℕ). v ∷ xs) (joined-high_places w (k + 1) vs)
 
+-- each value has a place
 pub length-high_places : (w k : ℕ) (vs : List ℕ) → length (high_places w k vs) ≡ length vs
 unfolding high_places
 length-high_places w k [] = refl
 length-high_places w k (v ∷ vs) = ap suc (length-high_places w (k + 1) vs)
 
+-- as many marks as asked for are made
 pub length-marks : (at n : ℕ) (ps : List ℕ) → length (marks at n ps) ≡ n
 unfolding marks
 length-marks at zero ps = refl
 length-marks at (suc n) ps = ap suc (length-marks (at + 1) n ps)
 
+-- a shift keeps the order
 pub shr-mono : (a b w : ℕ) → a ≤ b → a / 2 ^ w ≤ b / 2 ^ w
 shr-mono a b w le = lib.Pow.shr_mono w le
 
@@ -93,11 +100,13 @@ high_places-before w k d x (v ∷ vs) h lt =
     let more = shr-mono d v w p.0 in
     rw (ne_eqb x (v / 2 ^ w + k) (λ e. omega (arith, e, more))) (high_places-before w (k + 1) v x vs p.1 (omega (arith, more)))
 
+-- no marks have no places
 places_from-no_marks : (at n : ℕ) → places_from at (marks at n []) ≡ []
 unfolding places_from marks is_among
 places_from-no_marks at zero = refl
 places_from-no_marks at (suc n) = places_from-no_marks (at + 1) n
 
+-- the places of the marks are those that were marked
 pub places_from-marks : (w k d at n : ℕ) (vs : List ℕ) → rises d vs ≡ true → at ≤ d / 2 ^ w + k → last_of d vs / 2 ^ w + k + length vs ≤ at + n →
     places_from at (marks at n (high_places w k vs)) ≡ high_places w k vs
 unfolding places_from marks is_among high_places last_of
@@ -125,6 +134,7 @@ places_from-marks w k d at (suc n) (v ∷ vs) h low high =
 
 -- ---- the whole list
 
+-- there are as many values as the count says
 pub values-length : (count last w : ℕ) (low high : List Bool) → AreParts count last w low high → length (values_of w low high) ≡ count
 values-length count last w low high p = length-joined w 0 (places high) low ∙ length-places_from 0 high ∙ p.ones_are
 
@@ -167,6 +177,7 @@ list-values vs r =
       ap (λ (ps : List ℕ). joined w 0 ps (bits_of_each w vs)) found ∙ joined-high_places w 0 vs,
     )
 
+-- values without a fault rise
 pub values-rising : (count last w : ℕ) (low high : List Bool) → AreValues count last w low high → IsRising (values_of w low high)
 values-rising count last w low high v =
     record { rising = v.rising; fits = omega (arith, v.last_is, v.fits); few = omega (arith, values-length count last w low high v.parts, v.parts.few) }

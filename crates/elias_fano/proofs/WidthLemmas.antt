@@ -5,6 +5,7 @@ use Rattle.std.proofs.lemmas.Bool.{cases_lt, cases_eq, lt-ltb, le-ltb, eq-eqb, n
 use Rattle.std.proofs.lemmas.Nat.{pow_pos, mul-le}
 use Rattle.elias_fano.specs.Spelling.{log2_within, low_width}
 
+-- the logarithm is the exponent between whose powers a number stands
 pub log2_is : (most n r : ℕ) → n < 2 ^ suc most → 2 ^ r ≤ n → n < 2 * 2 ^ r → log2_within most n ≡ r
 unfolding log2_within
 log2_is zero n zero small low high = refl
@@ -16,6 +17,7 @@ log2_is (suc most) n (suc r) small low high =
     rw (le-ltb n 2 (omega (arith, p, pow_pos r))) (ap (λ (x : ℕ). x + 1) (log2_is most (n / 2) r (omega (arith, q)) (omega (arith, p)) (omega (arith, p)))
     ∙ omega arith)
 
+-- the logarithm is at most its bound
 pub log2-le : (most n : ℕ) → log2_within most n ≤ most
 unfolding log2_within
 log2-le zero n = omega arith
@@ -25,10 +27,12 @@ log2-le (suc most) n =
       | inr le ↦ rw (le-ltb n 2 le) (omega (arith, log2-le most (n / 2)))
     ]
 
+-- an empty list has no low bits
 pub low_width-none : (count last : ℕ) → count ≡ 0 → low_width count last ≡ 0
 unfolding low_width
 low_width-none count last e = rw (eq-eqb count 0 e) refl
 
+-- steps below one have no low bits
 pub low_width-small : (count last : ℕ) → last / count ≡ 0 → low_width count last ≡ 0
 unfolding low_width
 low_width-small count last e =
@@ -37,6 +41,7 @@ low_width-small count last e =
       | inr some ↦ rw (ne_eqb count 0 some, e) (log2_is 63 1 0 (omega arith) (omega arith) (omega arith))
     ]
 
+-- otherwise the width is the logarithm of the mean step
 pub low_width-is : (count last r : ℕ) → (count ≡ 0 → ⊥) → last < 2 ^ 64 → (last / count ≡ 0 → ⊥) → 2 ^ r ≤ last / count → last / count < 2 * 2 ^ r →
     low_width count last ≡ r
 unfolding low_width
@@ -45,6 +50,7 @@ low_width-is count last r some small large low high =
     let fits : last / count < 2 ^ suc 63 = omega (arith, Rattle.std.proofs.Math.Nat.div-le_self last count) in
     rw (ne_eqb count 0 some, most) (log2_is 63 (last / count) r fits low high)
 
+-- the width is at most 63
 pub low_width-le : (count last : ℕ) → low_width count last ≤ 63
 unfolding low_width
 low_width-le count last =
@@ -60,6 +66,7 @@ few_high count last r some high =
     let more = mul-le count (last / count + 1) count (2 * 2 ^ r) (omega arith) (omega arith) in
     div-le_of_le-mul (2 ^ r) (omega (arith, below, more))
 
+-- without low bits the high part is below the count
 pub few_high-small : (count last : ℕ) → 0 < count → last / count ≡ 0 → last / 2 ^ 0 ≤ 2 * count
 few_high-small count last some e = few_high count last 0 some (omega (arith, e))
 

@@ -1,6 +1,6 @@
 -- Reading a spelling from the left, with the first fault that is met.
-use Rattle.std.specs.Prelude.{ℕ, zero, suc, ◌≡◌, ◌+◌, ◌-◌, ◌*◌, ◌^◌, Bool, not, ◌&&◌, List, [], ◌∷◌, ◌++◌, length, take, drop, Result, Ok, Err, nat_lt, ◌==◌}
-use Rattle.std.specs.Prelude.{if◌then◌else◌}
+use Rattle.std.specs.Prelude.{ℕ, zero, suc, ◌≡◌, ◌+◌, ◌-◌, ◌*◌, ◌^◌, ◌≤◌, Bool, not, ◌&&◌, List, [], ◌∷◌, ◌++◌, length, take, drop, Result, Ok, Err}
+use Rattle.std.specs.Prelude.{nat_lt, ◌==◌, if◌then◌else◌}
 use Rattle.std.specs.Int.{w64, from_le_bytes}
 use Rattle.bit_vector.specs.Bits.{bits_of, words_number, words_for, ones}
 use Rattle.elias_fano.specs.declared.fault.FormFault.{FormFault}
@@ -27,6 +27,18 @@ Gives view (Err e) read = Fails e read
 -- a fault of a kind at a place
 abbrev pub fault : ℕ → ℕ → FormFault
 fault at kind = record { at = at; kind = kind }
+
+-- a reading ends for want of bytes
+abbrev pub IsShort : {Y : Type 0} → Result Y FormFault → Type 0
+IsShort read = (place : ℕ) × (read ≡ Err (fault place SHORT))
+
+-- memory ran out
+abbrev pub LacksMemory : {X : Type 0} → Result X ReadErr → Type 0
+LacksMemory result = result ≡ Err errors.NoMemory
+
+-- where the bytes end before the first words that are kept, that is the answer, and not want of memory
+abbrev pub TellsShort : {X Y : Type 0} → ℕ → Result X ReadErr → Result Y FormFault → Type 0
+TellsShort at result read = (place : ℕ) → place ≤ at + 8 → read ≡ Err (fault place SHORT) → result ≡ Err (errors.Form (fault place SHORT))
 
 -- a number and the bytes after it
 unfoldable pub number_at : ℕ → List ℕ → Result (ℕ × List ℕ) FormFault

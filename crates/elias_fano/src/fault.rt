@@ -1,5 +1,4 @@
-//! Why bytes spell no list.
-
+// Why bytes spell no list.
 ghost use Rattle.std.specs.Prelude.{◌≡◌};
 ghost use Rattle.elias_fano.specs.declared.fault.ReadErr.TheVariants.{Form};
 ghost use Rattle.elias_fano.specs.declared.fault.ReadErr.TheVariants as errors;

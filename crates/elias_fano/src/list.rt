@@ -3,7 +3,7 @@ ghost use Rattle.std.specs.Prelude.{◌≡◌, ◌+◌, ◌^◌, ◌<◌, ◌≤
 ghost use Rattle.std.specs.List.{slice_get};
 ghost use Rattle.elias_fano.specs.Spelling.{rises, ef_text, IsRising};
 ghost use Rattle.elias_fano.specs.Values.{values_of, below_len, AreValues};
-ghost use Rattle.elias_fano.specs.Reading.{Gives, list_at, IsSpelled};
+ghost use Rattle.elias_fano.specs.Reading.{Gives, TellsShort, list_at, IsSpelled};
 
 use crate::build::{high_part, last_value};
 use crate::fault::ReadErr;
@@ -145,6 +145,8 @@ impl EliasFano {
         // Which fault it is: the first one.
         ensures exact { Gives (λ x. (x.0, drop x.1 bytes.now)) result
             (list_at at count (drop at bytes.now)) }
+        // Too few bytes are told before memory is taken.
+        ensures short { TellsShort at result (list_at at count (drop at bytes.now)) }
     {
         let rest = &bytes[at..];
         let (list, rest) = read_list(alloc, at as u64, count, rest)?;

@@ -1,9 +1,10 @@
 // Numbers and runs of bits from the front of bytes, and a whole list.
-ghost use Rattle.std.specs.Prelude.{◌≡◌, ◌+◌, ◌*◌, ◌^◌, ◌≤◌, ◌++◌, length, take, drop, OnOk, OnErr};
+ghost use Rattle.std.specs.Prelude.{◌≡◌, ◌+◌, ◌*◌, ◌^◌, ◌<◌, ◌≤◌, ◌++◌, length, take, drop, OnOk, OnErr};
 ghost use Rattle.std.specs.Int.{w64, from_le_bytes};
+ghost use Rattle.bit_vector.specs.Bits.{words_for};
 ghost use Rattle.elias_fano.specs.Spelling.{low_width, high_len};
 ghost use Rattle.elias_fano.specs.declared.fault.ReadErr.TheVariants.{Form};
-ghost use Rattle.elias_fano.specs.Reading.{Gives, fault, number_at, words_in, run_at, checked, parts_at, list_at};
+ghost use Rattle.elias_fano.specs.Reading.{Gives, TellsShort, LacksMemory, fault, number_at, words_in, run_at, checked, parts_at, list_at};
 
 use crate::fault::{COUNT, FormFault, LAST, ORDER, PADDING, ReadErr, SHORT};
 use crate::list::EliasFano;
@@ -29,7 +30,8 @@ fn number_in(bytes: &[u8], at: usize) -> u64
 
 /// The number that bytes begin with, where their place is known, and the bytes after it.
 pub fn read_number(at: u64, bytes: &[u8]) -> Result<(u64, &[u8]), ReadErr>
-    ensures { Gives (λ x. (x.0, x.1.now)) result (number_at at bytes.now) }
+    ensures value { Gives (λ x. (x.0, x.1.now)) result (number_at at bytes.now) }
+    ensures memory { LacksMemory result → ⊥ }
 {
     if bytes.len() < 8 {
         return Err(form_fault(at, SHORT));
@@ -43,7 +45,11 @@ pub fn append_words(words: &mut Vec<u64>, bytes: &[u8], count: usize) -> Result<
     ensures ok { OnOk result (words.new.items ≡ words.old.items ++ words_in count bytes.now) }
     ensures kept { take (length words.old.items) words.new.items ≡ words.old.items }
     ensures err { OnErr result (words.new.items ≡ words.old.items) }
+    ensures memory { OnErr result (0 < count) }
 {
+    if count == 0 {
+        return Ok(());
+    }
     let before = words.len();
     let appended = push_words(words, bytes, count);
     if appended.is_err() {
@@ -69,7 +75,9 @@ fn push_words(words: &mut Vec<u64>, bytes: &[u8], count: usize) -> Result<(), No
 fn run_of(alloc: Global, at: u64, len: u64, bytes: &[u8]) -> Result<(BitVec, &[u8]), ReadErr>
     requires most { len ≤ 2 ^ 42 }
     requires place { at ≤ 2 ^ 63 + 2 ^ 50 }
-    ensures { Gives (λ x. (x.0, x.1.now)) result (run_at at len bytes.now) }
+    ensures bits { Gives (λ x. (x.0, x.1.now)) result (run_at at len bytes.now) }
+    ensures some { LacksMemory result → 0 < len }
+    ensures memory { LacksMemory result → 8 * words_for len ≤ length bytes.now }
 {
     let count = len.div_ceil(64);
     if (bytes.len() as u64) < 8 * count {
@@ -125,8 +133,9 @@ fn parts_of(
     requires few { count ≤ 2 ^ 36 }
     requires none { count ≡ 0 → last ≡ 0 }
     requires place { at ≤ 2 ^ 63 }
-    ensures { Gives (λ x. (x.0, x.1.now)) result
+    ensures values { Gives (λ x. (x.0, x.1.now)) result
         (parts_at at count last (low_width count last) bytes.now) }
+    ensures short { TellsShort at result (parts_at at count last (low_width count last) bytes.now) }
 {
     let width = width_of(count, last);
     let low_len = count * u64::from(width);
@@ -147,7 +156,8 @@ pub fn read_list(
 ) -> Result<(EliasFano, &[u8]), ReadErr>
     requires few { count ≤ 2 ^ 36 }
     requires place { at ≤ 2 ^ 63 }
-    ensures { Gives (λ x. (x.0, x.1.now)) result (list_at at count bytes.now) }
+    ensures values { Gives (λ x. (x.0, x.1.now)) result (list_at at count bytes.now) }
+    ensures short { TellsShort at result (list_at at count bytes.now) }
 {
     let (last, rest) = read_number(at, bytes)?;
     if count == 0 && last != 0 {

@@ -1,3 +1,4 @@
+// Spellings, faults and long lists.
 ghost use Rattle.std.specs.Prelude.{◌≡◌};
 ghost use Rattle.elias_fano.specs.Spelling.{rises};
 
@@ -142,6 +143,45 @@ fn what_is_read(rt: HostRuntime) -> Result<(), Fail> {
     let (none, place) = read_all(&rt, rt.alloc(), &[0; 16], 0)?;
     assert_eq!(rt; none.len(), 0);
     assert_eq!(rt; place, 16);
+    Ok(())
+}
+
+// How many values at the front are below a bound, by a look at each.
+fn below_by_each(list: &EliasFano, bound: u64) -> u64 {
+    for i in 0..list.len() {
+        if list.get(i).unwrap_or(0) >= bound {
+            return i;
+        }
+    }
+    list.len()
+}
+
+#[test]
+fn pairs_and_bounds(rt: HostRuntime) -> Result<(), Fail> {
+    let none: [u64; 0] = [];
+    let primes = [2, 3, 5, 7, 11, 13, 24];
+    // The values, a bound, and how many at the front are below it.
+    for (values, bound, below) in [
+        (none.as_slice(), 0, 0),
+        ([5, 5, 5, 5].as_slice(), 5, 0),
+        ([5, 5, 5, 5].as_slice(), 6, 4),
+        (primes.as_slice(), 2, 0),
+        (primes.as_slice(), 3, 1),
+        (primes.as_slice(), 12, 5),
+        (primes.as_slice(), 24, 6),
+        (primes.as_slice(), 25, 7),
+        ([0, 1 << 63].as_slice(), 1 << 63, 1),
+        ([MAX - 1, MAX].as_slice(), MAX, 1),
+    ] {
+        let list = list_of(&rt, rt.alloc(), values)?;
+        assert_eq!(rt; list.below(bound), below, "{bound}");
+        assert_eq!(rt; below_by_each(&list, bound), below, "{bound}");
+        for i in 1..list.len() {
+            let (value, next) = list.pair(i - 1);
+            assert_eq!(rt; Some(value), list.get(i - 1), "{i}");
+            assert_eq!(rt; Some(next), list.get(i), "{i}");
+        }
+    }
     Ok(())
 }
 

@@ -93,3 +93,21 @@ steps-le b (s ∷ ss) (suc i) = steps-le s ss i
 pub steps_within : (bound : ℕ) (ss : List ℕ) → below_len bound ss ≡ length ss → below_len bound (steps_from 0 ss) ≡ length (steps_from 0 ss)
 steps_within bound ss e =
     below_each bound (steps_from 0 ss) (λ i lt. omega (arith, steps-le 0 ss i, each_below bound ss i e (omega (arith, lt, length-steps_from 0 ss))))
+
+-- what was passed, and a group all of which is below
+pub below_passed : (bound passed total : ℕ) (g rest : List ℕ) → passed + below_len bound (g ++ rest) ≡ total → length g ≤ below_len bound g →
+    passed + below_len bound g + below_len bound rest ≡ total
+below_passed bound passed total g rest so_far le = omega (arith, so_far, below-back bound g rest le, below_len-most bound g, le)
+
+-- what was passed, and a group not all of which is below
+pub below_stopped : (bound passed total : ℕ) (g rest : List ℕ) → passed + below_len bound (g ++ rest) ≡ total → below_len bound g < length g →
+    passed + below_len bound g ≡ total
+below_stopped bound passed total g rest so_far lt = omega (arith, so_far, below-front bound g rest lt)
+
+-- no more is passed than there is
+pub below_room : (bound passed total : ℕ) (g rest : List ℕ) → passed + below_len bound (g ++ rest) ≡ total → passed + below_len bound g ≤ total
+below_room bound passed total g rest so_far =
+    elim (cases_lt (below_len bound g) (length g)) [
+      | inl lt ↦ omega (arith, below_stopped bound passed total g rest so_far lt)
+      | inr le ↦ omega (arith, below_passed bound passed total g rest so_far le)
+    ]

@@ -23,11 +23,13 @@ pub record IsTaken (bytes text : List ℕ) (count : ℕ) (vs rest : List ℕ) : 
   pub rest_fits : IsBytes rest
   pub count_is : length vs ≡ count
 
+-- the bytes behind a text are bytes
 rest_of : (bytes text rest : List ℕ) → IsBytes bytes → bytes ≡ text ++ rest → IsBytes rest
 rest_of bytes text rest fits e i =
     let same : rest ≡ drop (length text) bytes = sym (drop_at text rest (length text) refl) ∙ ap (λ (t : List ℕ). drop (length text) t) (sym e) in
     subst (λ (t : List ℕ). get_or t i 0 < 256) (sym same) (Rattle.elias_fano.proofs.CallerLemmas.IsBytes-drop (length text) bytes fits i)
 
+-- a list that is read under a code stood there as its spelling
 pub code_takes : (code : Code) (at count : ℕ) (bytes vs rest : List ℕ) → IsBytes bytes → count ≤ 2 ^ 30 → code_at code at count bytes ≡ Ok (vs, rest) →
     IsTaken bytes (code_text code vs) count vs rest × Fits code vs
 code_takes codes.Compact at count bytes vs rest fits few e =
@@ -45,6 +47,7 @@ code_takes codes.EliasFano at count bytes vs rest fits few e =
       (t.0.rising.fits, omega (arith, t.1)),
     )
 
+-- the spelling of a list under a code is read as that list
 pub code_again : (code : Code) (at : ℕ) (vs rest : List ℕ) → Fits code vs → code_at code at (length vs) (code_text code vs ++ rest) ≡ Ok (vs, rest)
 code_again codes.Compact at vs rest f = compact_again at vs rest f.0
 code_again codes.Parted at vs rest f = parted_again at vs rest f.0
@@ -55,6 +58,7 @@ code_again codes.EliasFano at vs rest f = sums_again at vs rest f.0 f.1
 pub front_le : (k : ℕ) → front_count_of k ≤ k
 front_le k = omega arith
 
+-- so it is with two codes
 pub split_takes : (front : Code) (back : Option Code) (at count : ℕ) (bytes vs rest : List ℕ) → IsBytes bytes → count ≤ 2 ^ 30 →
     split_at front back at count bytes ≡ Ok (vs, rest) → IsTaken bytes (split_text front back vs) count vs rest × FitSplit front back vs
 split_takes front None at count bytes vs rest fits few e = code_takes front at count bytes vs rest fits few e
@@ -81,6 +85,7 @@ split_takes front (Some back) at count bytes vs rest fits few e =
     subst (λ (p : List ℕ × List ℕ). IsTaken bytes (split_text front (Some back) p.0) count p.0 p.1 × FitSplit front (Some back) p.0) (ok_is {A =
     List ℕ × List ℕ} (all, b.0.1) (vs, rest) b.2) made
 
+-- and the spelling under two codes is read as that list
 pub split_again : (front : Code) (back : Option Code) (at : ℕ) (vs rest : List ℕ) → FitSplit front back vs →
     split_at front back at (length vs) (split_text front back vs ++ rest) ≡ Ok (vs, rest)
 split_again front None at vs rest f = code_again front at vs rest f
@@ -102,6 +107,7 @@ split_again front (Some back) at vs rest f =
 
 -- ---- at a place in bytes
 
+-- the rest of the bytes stands behind what was taken
 rest_place : (bytes text rest : List ℕ) (at : ℕ) → at ≤ length bytes → drop at bytes ≡ text ++ rest →
     (length bytes ≡ at + length text + length rest) × (rest ≡ drop (at + length text) bytes)
 rest_place bytes text rest at le e =
@@ -110,6 +116,7 @@ rest_place bytes text rest at le e =
       sym (sym (drop-drop (length text) at bytes) ∙ ap (λ (t : List ℕ). drop (length text) t) e ∙ drop_at text rest (length text) refl),
     )
 
+-- what is taken at a place is spelled there
 pub spelled_at : (bytes : List ℕ) (at count : ℕ) (enc : Encoding) (vs rest : List ℕ) → at ≤ length bytes →
     IsTaken (drop at bytes) (pair_text enc vs) count vs rest × FitSplit enc.front enc.back vs →
     (length rest ≤ length bytes) × IsSpelled bytes at count enc vs (length bytes - length rest) × (rest ≡ drop (length bytes - length rest) bytes)
@@ -122,12 +129,14 @@ spelled_at bytes at count enc vs rest le t =
       behind,
     )
 
+-- what is spelled at a place is read there
 pub spelled_again : (bytes : List ℕ) (at count : ℕ) (enc : Encoding) (vs : List ℕ) (next : ℕ) → IsSpelled bytes at count enc vs next →
     pair_at enc at count (drop at bytes) ≡ Ok (vs, drop next bytes)
 spelled_again bytes at count enc vs next s =
     ap (λ (k : ℕ). pair_at enc at k (drop at bytes)) (sym s.count_is) ∙ ap (λ (t : List ℕ). pair_at enc at (length vs) t) s.text
     ∙ split_again enc.front enc.back at vs (drop next bytes) s.fit
 
+-- what is spelled at a place is what is read there
 pub spelled_same : (bytes : List ℕ) (at count : ℕ) (enc : Encoding) (vs : List ℕ) (next : ℕ) (us rest : List ℕ) → IsSpelled bytes at count enc vs next →
     pair_at enc at count (drop at bytes) ≡ Ok (us, rest) → at ≤ length bytes →
     done {A = List ℕ × ℕ} (vs, next) ≡ Ok (us, length bytes - length rest)
@@ -139,6 +148,7 @@ spelled_same bytes at count enc vs next us rest s e le =
     let place : next ≡ length bytes - length rest = omega (arith, n.0, s.next_is, ap length after) in
     ap (λ (x : List ℕ). done {A = List ℕ × ℕ} (x, next)) same ∙ ap (λ (k : ℕ). done {A = List ℕ × ℕ} (us, k)) place
 
+-- only one list of a count is spelled at a place
 pub spelled_once : (bytes : List ℕ) (at count : ℕ) (enc : Encoding) (vs us : List ℕ) (m n : ℕ) → IsSpelled bytes at count enc vs m →
     IsSpelled bytes at count enc us n → (vs ≡ us) × (m ≡ n)
 spelled_once bytes at count enc vs us m n s t =

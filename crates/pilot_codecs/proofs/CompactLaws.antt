@@ -22,6 +22,7 @@ use Rattle.pilot_codecs.specs.Reading.{fields, packed_at, compact_at}
 use Rattle.pilot_codecs.proofs.FieldLemmas.{lt-digits_of, digits_of-le, digits_of-pos, length-fields, fields-bits_of_each, bits_of_each-fields}
 use Rattle.pilot_codecs.proofs.CompactLemmas.{packed_at-ok, compact_at-packed}
 
+-- no field reaches the power of its width
 pub greatest-fields : (n w : ℕ) (bits : List Bool) → greatest (fields n w bits) < 2 ^ w
 unfolding fields greatest
 greatest-fields zero w bits = pow_pos w
@@ -33,6 +34,7 @@ pub record IsCompactText (bytes : List ℕ) (count : ℕ) (vs rest : List ℕ) :
   pub count_is : length vs ≡ count
   pub small : greatest vs < 2 ^ 64
 
+-- values that are read behind a width stood there as their spelling
 packed_takes : (at count w : ℕ) (bytes vs rest : List ℕ) → IsBytes bytes → w ≤ 64 → packed_at at count w bytes ≡ Ok (vs, rest) →
     (number w ++ bytes ≡ compact_text vs ++ rest) × IsBytes rest × (length vs ≡ count) × (greatest vs < 2 ^ 64)
 unfolding packed_at compact_text run
@@ -66,6 +68,7 @@ packed_takes at count w bytes vs rest fits narrow e =
     × (length p.0 ≡ count) × (greatest p.0 < 2 ^ 64)) k.1
     (whole, IsBytes-drop (8 * size) bytes fits, length-fields count w bits, omega (arith, greatest-fields count w bits, more))
 
+-- a list that is read stood there as its spelling
 pub compact_takes : (at count : ℕ) (bytes vs rest : List ℕ) → IsBytes bytes → compact_at at count bytes ≡ Ok (vs, rest) → IsCompactText bytes count vs rest
 unfolding compact_at
 compact_takes at count bytes vs rest fits e =
@@ -79,6 +82,7 @@ compact_takes at count bytes vs rest fits e =
     let p = packed_takes at count a.0.0 a.0.1 vs rest t.0.rest_fits narrow g.1 in
     record { taken = record { parts = t.0.parts ∙ p.0; rest_fits = p.1 }; count_is = p.2; small = p.3 }
 
+-- the spelling of a list is read as that list
 pub compact_again : (at : ℕ) (vs rest : List ℕ) → greatest vs < 2 ^ 64 → compact_at at (length vs) (compact_text vs ++ rest) ≡ Ok (vs, rest)
 unfolding compact_text run
 compact_again at vs rest small =

@@ -32,12 +32,15 @@ ord_max_is a b =
           ]
     ]
 
+-- one value more is compared with the greatest so far
 pub greatest-more : (vs : List ℕ) (i : ℕ) → i < length vs → greatest (take (i + 1) vs) ≡ max (greatest (take i vs)) (get_or vs i 0)
 greatest-more vs i lt = ap greatest (take_more vs i 0 lt) ∙ greatest-push (take i vs) (get_or vs i 0)
 
+-- a field ends before all of them end
 pub place_fits : (i w count : ℕ) → i < count → i * w + w ≤ count * w
 place_fits i w count lt = omega (arith, mul-le (i + 1) w count w (omega arith) (omega arith))
 
+-- the bits from a field's place on are that field
 pub field_at : (n count w i : ℕ) → i < count → n / 2 ^ (i * w) % 2 ^ w ≡ get_or (fields count w (bits_of (count * w) n)) i 0
 field_at n count w i lt = bits_read n (count * w) (i * w) w (place_fits i w count lt) ∙ sym (get_or-fields count w (bits_of (count * w) n) i lt)
 
@@ -50,6 +53,7 @@ compact_made vs w ws few small wide e =
     let same : values_in (length vs) w ws ≡ vs = ap (λ (bs : List Bool). fields (length vs) w bs) p.1 ∙ fields-bits_of_each w vs fits in
     (record { few = few; wide = wide ∙ ap (λ (xs : List ℕ). digits_of (greatest xs)) (sym same); packed_are = p.0 }, same)
 
+-- the spelling of packed values is their width and words
 pub compact_text-values_in : (count w : ℕ) (ws : List ℕ) → IsCompact count w ws → compact_text (values_in count w ws) ≡ number w ++ flat_map number ws
 unfolding compact_text run
 compact_text-values_in count w ws p =
@@ -58,6 +62,7 @@ compact_text-values_in count w ws p =
     ∙ ap (λ (bs : List Bool). number w ++ flat_map number (packed bs)) (bits_of_each-fields count w bits (length-bits_of (count * w) (words_number ws)))
     ∙ ap (λ (xs : List ℕ). number w ++ flat_map number xs) (packed-bits_of ws (count * w) p.packed_are)
 
+-- there are as many values as the count says
 pub length-values_in : (count w : ℕ) (ws : List ℕ) → length (values_in count w ws) ≡ count
 length-values_in count w ws = length-fields count w (bits_of (count * w) (words_number ws))
 
@@ -71,14 +76,17 @@ value_within count w i at ws p lt e = omega (arith, e, place_fits i w count lt, 
 
 -- ---- reading after the width
 
+-- the words that a count of a width takes
 abbrev words_at : ℕ → ℕ → List ℕ → List ℕ
 words_at count w bytes = words_in (words_for (count * w)) bytes
 
+-- the words are short where the bytes end before them
 pub packed_at-short : (at count w size : ℕ) (bytes : List ℕ) → size ≡ words_for (count * w) → length bytes < 8 * size →
     packed_at at count w bytes ≡ Err (fault (at + 8) 1)
 unfolding packed_at
 packed_at-short at count w size bytes s lt = rw (lt-ltb (length bytes) (8 * words_for (count * w)) (omega (arith, s))) refl
 
+-- then a width that isn't that of the greatest value is the fault
 pub packed_at-width : (at count w size : ℕ) (bytes words : List ℕ) → size ≡ words_for (count * w) → 8 * size ≤ length bytes → words ≡ words_in size bytes →
     (digits_of (greatest (fields count w (bits_of (count * w) (words_number words)))) ≡ w → ⊥) → packed_at at count w bytes ≡ Err (fault at 2)
 unfolding packed_at
@@ -88,6 +96,7 @@ packed_at-width at count w size bytes words s le e other =
     ne_eqb _ _ (λ d. other (ap (λ (ws : List ℕ). digits_of (greatest (fields count w (bits_of (count * w) (words_number ws))))) same ∙ d)) in
     rw (le-ltb (length bytes) (8 * words_for (count * w)) (omega (arith, s)), differs) refl
 
+-- then a set unused bit
 pub packed_at-padding : (at count w size : ℕ) (bytes words : List ℕ) → size ≡ words_for (count * w) → 8 * size ≤ length bytes → words ≡ words_in size bytes →
     IsBytes bytes →
     digits_of (greatest (fields count w (bits_of (count * w) (words_number words)))) ≡ w → (IsPacked words (count * w) → ⊥) →
@@ -105,6 +114,7 @@ packed_at-padding at count w size bytes words s le e fits d other =
     ] in
     rw (le-ltb (length bytes) (8 * words_for len) (omega (arith, s)), equal, past, s) refl
 
+-- without a fault the fields are the values
 pub packed_at-ok : (at count w size : ℕ) (bytes words : List ℕ) (bits : List Bool) → size ≡ words_for (count * w) → 8 * size ≤ length bytes →
     words ≡ words_in size bytes →
     digits_of (greatest (fields count w (bits_of (count * w) (words_number words)))) ≡ w → IsPacked words (count * w) →
@@ -129,11 +139,13 @@ packed_at-ok at count w size bytes words bits s le e d p b =
 
 -- ---- reading from the width on
 
+-- a fault of the width's field is that of the list
 pub compact_at-number : (e : ReadErr) (at count : ℕ) (bytes : List ℕ) → Fails e (number_at at bytes) → Fails e (compact_at at count bytes)
 unfolding compact_at
 compact_at-number errors.NoMemory at count bytes h = tt
 compact_at-number (errors.Form f) at count bytes h = rw h refl
 
+-- no width is 0 or above 64
 pub compact_at-width : (at count w : ℕ) (bytes rest : List ℕ) → number_at at bytes ≡ Ok (w, rest) → ((0 < w) × (w ≤ 64) → ⊥) →
     compact_at at count bytes ≡ Err (fault at 2)
 unfolding compact_at
@@ -147,6 +159,7 @@ compact_at-width at count w bytes rest n other =
           ]
     ]
 
+-- behind the width the words follow
 pub compact_at-packed : (at count w : ℕ) (bytes rest : List ℕ) → number_at at bytes ≡ Ok (w, rest) → (w ≡ 0 → ⊥) → w ≤ 64 →
     compact_at at count bytes ≡ packed_at at count w rest
 unfolding compact_at

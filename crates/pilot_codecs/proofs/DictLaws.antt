@@ -15,6 +15,7 @@ use Rattle.pilot_codecs.proofs.DictLemmas.{same_bool, rise_from-yes, rise_from-n
 
 -- ---- membership by index
 
+-- what is among others stands at some index
 pub index_of_among : (x : ℕ) (xs : List ℕ) → is_among x xs ≡ true → (i : ℕ) × (i < length xs) × (get_or xs i 0 ≡ x)
 unfolding is_among
 index_of_among x [] h = absurd (false≢true h)
@@ -24,6 +25,7 @@ index_of_among x (y ∷ ys) h =
       | inr r ↦ let p = index_of_among x ys r in (suc p.0, omega (arith, p.1), p.2)
     ]
 
+-- what stands at an index is among them
 pub among_at : (xs : List ℕ) (i : ℕ) → i < length xs → is_among (get_or xs i 0) xs ≡ true
 unfolding is_among
 among_at [] i lt = absurd (omega arith)
@@ -34,9 +36,11 @@ among_at (y ∷ ys) (suc i) lt =
       | inr n ↦ rw n (among_at ys i (omega arith))
     ]
 
+-- so is what equals it
 pub among_by : (x : ℕ) (xs : List ℕ) (i : ℕ) → i < length xs → get_or xs i 0 ≡ x → is_among x xs ≡ true
 among_by x xs i lt e = ap (λ (y : ℕ). is_among y xs) (sym e) ∙ among_at xs i lt
 
+-- a bound of each is one of the greatest
 pub greatest_within : (m : ℕ) (xs : List ℕ) → ((i : ℕ) → i < length xs → get_or xs i 0 ≤ m) → greatest xs ≤ m
 unfolding greatest
 greatest_within m [] h = omega arith
@@ -44,10 +48,12 @@ greatest_within m (x ∷ xs) h = omega (arith, h 0 (omega arith), greatest_withi
 
 -- ---- rising from a least number on
 
+-- each is above the one before, and the first not below a least number
 abbrev pub Up : ℕ → List ℕ → Type 0
 Up least [] = Unit {0}
 Up least (d ∷ ds) = (least ≤ d) × Up (suc d) ds
 
+-- numbers that all rise from one are above it
 up_from-rise_from : (b : ℕ) (ds : List ℕ) → rise_from b ds ≡ length ds → Up (suc b) ds
 unfolding rise_from
 up_from-rise_from b [] h = tt
@@ -61,26 +67,31 @@ up_from-rise_from b (d ∷ ds) h =
           absurd (omega (arith, e))
     ]
 
+-- numbers that all rise, rise from 0
 pub up_from-rise_len : (ds : List ℕ) → rise_len ds ≡ length ds → Up 0 ds
 unfolding rise_len
 up_from-rise_len [] h = tt
 up_from-rise_len (d ∷ ds) h = (omega arith, up_from-rise_from d ds (omega (arith, h)))
 
+-- numbers above one that rise are all counted
 rise_from-up : (b : ℕ) (ds : List ℕ) → Up (suc b) ds → rise_from b ds ≡ length ds
 unfolding rise_from
 rise_from-up b [] h = refl
 rise_from-up b (d ∷ ds) h = rw (lt-ltb b d (omega (arith, h.0))) (omega (arith, rise_from-up d ds h.1))
 
+-- numbers that rise are all counted
 pub rise_len-up : (least : ℕ) (ds : List ℕ) → Up least ds → rise_len ds ≡ length ds
 unfolding rise_len
 rise_len-up least [] h = refl
 rise_len-up least (d ∷ ds) h = omega (arith, rise_from-up d ds h.1)
 
+-- each of them is not below the least number
 pub up_at : (least : ℕ) (ds : List ℕ) (i : ℕ) → Up least ds → i < length ds → least ≤ get_or ds i 0
 up_at least [] i h lt = absurd (omega arith)
 up_at least (d ∷ ds) zero h lt = h.0
 up_at least (d ∷ ds) (suc i) h lt = omega (arith, h.0, up_at (suc d) ds i h.1 (omega arith))
 
+-- nothing below the least number is among them
 not_among : (least x : ℕ) (ds : List ℕ) → Up least ds → x < least → is_among x ds ≡ false
 unfolding is_among
 not_among least x [] h lt = refl
@@ -88,17 +99,20 @@ not_among least x (d ∷ ds) h lt = rw (ne_eqb x d (λ e. omega (arith, e, h.0))
 
 -- ---- the numbers that are present
 
+-- nothing is among no numbers
 none_present : (at n : ℕ) → present_from at n [] ≡ []
 unfolding present_from is_among
 none_present at zero = refl
 none_present at (suc n) = none_present (at + 1) n
 
+-- a number that is passed changes nothing
 present_passed : (at n d : ℕ) (ds : List ℕ) → d < at → present_from at n (d ∷ ds) ≡ present_from at n ds
 unfolding present_from is_among
 present_passed at zero d ds lt = refl
 present_passed at (suc n) d ds lt =
     rw (ne_eqb at d (λ e. omega (arith, e))) (ap (λ (rest : List ℕ). cond (is_among at ds) (at ∷ rest) rest) (present_passed (at + 1) n d ds (omega arith)))
 
+-- the numbers among a rising list are that list
 pub present_rising : (at n : ℕ) (ds : List ℕ) → Up at ds → greatest ds < at + n → present_from at n ds ≡ ds
 unfolding present_from is_among greatest
 present_rising at zero [] h lt = refl
@@ -119,6 +133,7 @@ present_rising at (suc n) (d ∷ ds) h lt =
           rw (eq-eqb at d here) (ap (λ (x : ℕ). x ∷ present_from (at + 1) n (d ∷ ds)) here ∙ ap (λ (xs : List ℕ). d ∷ xs) rest)
     ]
 
+-- lists with the same members have the same numbers present
 present_same : (at n : ℕ) (us vs : List ℕ) → ((x : ℕ) → is_among x us ≡ is_among x vs) → present_from at n us ≡ present_from at n vs
 unfolding present_from
 present_same at zero us vs h = refl
@@ -134,6 +149,7 @@ distinct_is ds vs up same =
     omega (arith, p.2, get_or-le-greatest vs p.0)) in
     present_same 0 (greatest vs + 1) vs ds (λ x. sym (same x)) ∙ present_rising 0 (greatest vs + 1) ds up (omega (arith, bound))
 
+-- the numbers present rise
 up_present : (least at n : ℕ) (vs : List ℕ) → least ≤ at → Up least (present_from at n vs)
 unfolding present_from
 up_present least at zero vs le = tt
@@ -143,6 +159,7 @@ up_present least at (suc n) vs le =
       | inr f ↦ rw f (up_present least (at + 1) n vs (omega arith))
     ]
 
+-- among the numbers present are the members within their range
 among_present : (at n x : ℕ) (vs : List ℕ) → at ≤ x → x < at + n → is_among x (present_from at n vs) ≡ is_among x vs
 unfolding present_from is_among
 among_present at zero x vs low high = absurd (omega arith)
@@ -162,6 +179,7 @@ among_present at (suc n) x vs low high =
           ]
     ]
 
+-- nothing above the greatest is a member
 above_none : (vs : List ℕ) (x : ℕ) → greatest vs < x → is_among x vs ≡ false
 above_none vs x lt =
     elim (cases_Bool (is_among x vs)) [
@@ -169,6 +187,7 @@ above_none vs x lt =
       | inr f ↦ f
     ]
 
+-- nothing above the range is present
 above_present : (at n x : ℕ) (vs : List ℕ) → at + n ≤ x → is_among x (present_from at n vs) ≡ false
 unfolding present_from is_among
 above_present at zero x vs le = refl
@@ -179,6 +198,7 @@ above_present at (suc n) x vs le =
       | inr f ↦ rw f rest
     ]
 
+-- the distinct values have the same members
 pub among_distinct : (x : ℕ) (vs : List ℕ) → is_among x (distinct vs) ≡ is_among x vs
 among_distinct x vs =
     elim (cases_lt x (greatest vs + 1)) [
@@ -186,9 +206,11 @@ among_distinct x vs =
       | inr le ↦ above_present 0 (greatest vs + 1) x vs (omega (arith, le)) ∙ sym (above_none vs x (omega (arith, le)))
     ]
 
+-- the distinct values rise
 pub up_distinct : (vs : List ℕ) → Up 0 (distinct vs)
 up_distinct vs = up_present 0 0 (greatest vs + 1) vs (omega arith)
 
+-- one value more adds at most one number
 present_more : (at n v : ℕ) (vs : List ℕ) → length (present_from at n (v ∷ vs)) ≤ length (present_from at n vs) + 1
 unfolding present_from is_among
 present_more at zero v vs = omega arith
@@ -208,18 +230,22 @@ present_more at (suc n) v vs =
           ]
     ]
 
+-- there are at most as many numbers present as values
 few_present : (at n : ℕ) (vs : List ℕ) → length (present_from at n vs) ≤ length vs
 few_present at n [] = omega (arith, ap length (none_present at n))
 few_present at n (v ∷ vs) = omega (arith, present_more at n v vs, few_present at n vs)
 
+-- there are at most as many distinct values as values
 pub few_distinct : (vs : List ℕ) → length (distinct vs) ≤ length vs
 few_distinct vs = few_present 0 (greatest vs + 1) vs
 
+-- where there are values, there are distinct ones
 pub some_distinct : (vs : List ℕ) → 0 < length vs → 0 < length (distinct vs)
 some_distinct vs lt = let p = index_of_among (get_or vs 0 0) (distinct vs) (among_distinct (get_or vs 0 0) vs ∙ among_at vs 0 lt) in omega (arith, p.1)
 
 -- ---- indexes
 
+-- each entry of a rising list has its own index
 pub index_in-at : (least : ℕ) (ds : List ℕ) (i : ℕ) → Up least ds → i < length ds → index_in ds (get_or ds i 0) ≡ i
 unfolding index_in
 index_in-at least [] i h lt = absurd (omega arith)
@@ -228,6 +254,7 @@ index_in-at least (d ∷ ds) (suc i) h lt =
     let above = up_at (suc d) ds i h.1 (omega arith) in
     rw (ne_eqb d (get_or ds i 0) (λ e. omega (arith, e, above))) (omega (arith, index_in-at (suc d) ds i h.1 (omega arith)))
 
+-- the index of a member leads to it
 pub index_in-found : (ds : List ℕ) (v : ℕ) → is_among v ds ≡ true → (index_in ds v < length ds) × (get_or ds (index_in ds v) 0 ≡ v)
 unfolding index_in is_among
 index_in-found [] v h = absurd (false≢true h)
@@ -244,11 +271,13 @@ index_in-found (d ∷ ds) v h =
 
 -- ---- a dictionary with indexes, and the list
 
+-- what a function gives is below a bound if each of its values is
 below_map : (n : ℕ) (f : ℕ → ℕ) (vs : List ℕ) → ((i : ℕ) → i < length vs → f (get_or vs i 0) < n) → are_below n (map f vs) ≡ true
 unfolding are_below
 below_map n f [] h = refl
 below_map n f (v ∷ vs) h = rw (lt-ltb (f v) n (h 0 (omega arith))) (below_map n f vs (λ i lt. h (suc i) (omega arith)))
 
+-- a function and its inverse leave a list as it is
 map_back : (g f : ℕ → ℕ) (vs : List ℕ) → ((i : ℕ) → i < length vs → g (f (get_or vs i 0)) ≡ get_or vs i 0) → map g (map f vs) ≡ vs
 map_back g f [] h = refl
 map_back g f (v ∷ vs) h = ap (λ (x : ℕ). x ∷ map g (map f vs)) (h 0 (omega arith))
@@ -259,6 +288,7 @@ pub record IsDictOf (vs ds places : List ℕ) : Type 0 where
   pub dict : IsDict ds places
   pub same : looked_up ds places ≡ vs
 
+-- the distinct values and the index of each are a dictionary of the list
 pub dict_made : (vs : List ℕ) → IsDictOf vs (distinct vs) (map (index_in (distinct vs)) vs)
 dict_made vs =
     let ds = distinct vs in
@@ -275,6 +305,7 @@ dict_made vs =
       same = map_back (λ p. get_or ds p 0) (index_in ds) vs (λ i lt. (found i lt).1);
     }
 
+-- a dictionary is that of its values
 pub dict_same : (ds places : List ℕ) → IsDict ds places → (distinct (looked_up ds places) ≡ ds) × (map (index_in ds) (looked_up ds places) ≡ places)
 dict_same ds places d =
     let vs = looked_up ds places in
@@ -293,6 +324,7 @@ dict_same ds places d =
       map_back (index_in ds) (λ p. get_or ds p 0) places (λ i lt. index_in-at 0 ds (get_or places i 0) up (are_below-at (length ds) places i d.below lt)),
     )
 
+-- the spelling of the values is that of their dictionary
 pub dict_text-looked_up : (ds places : List ℕ) → IsDict ds places →
     dict_text (looked_up ds places) ≡ number (length ds) ++ flat_map number ds ++ compact_text places
 unfolding dict_text
@@ -304,11 +336,13 @@ dict_text-looked_up ds places d =
 
 -- ---- one value
 
+-- a value of a mapped list is the mapped value
 slice_get-map : (f : ℕ → ℕ) (xs : List ℕ) (i : ℕ) → slice_get (map f xs) i ≡ option_map f (slice_get xs i)
 slice_get-map f [] i = refl
 slice_get-map f (x ∷ xs) zero = refl
 slice_get-map f (x ∷ xs) (suc i) = slice_get-map f xs i
 
+-- a value is the entry at its index
 pub slice_get-looked_up : (ds places : List ℕ) (i : ℕ) (r : Option ℕ) → r ≡ slice_get places i →
     slice_get (looked_up ds places) i ≡ option_map (λ p. get_or ds p 0) r
 slice_get-looked_up ds places i r e = slice_get-map (λ p. get_or ds p 0) places i ∙ ap (λ (o : Option ℕ). option_map (λ p. get_or ds p 0) o) (sym e)
@@ -320,3 +354,18 @@ got_below n [] i p h e = absurd cc
 got_below n (q ∷ places) zero p h e = let same : p ≡ q = cc in
     omega (arith, ltb-true q n (Rattle.std.proofs.lemmas.Bool.and_parts (ltb q n) (are_below n places) h).0, same)
 got_below n (q ∷ places) (suc i) p h e = got_below n places i p (Rattle.std.proofs.lemmas.Bool.and_parts (ltb q n) (are_below n places) h).1 e
+
+-- a number that is present comes first
+pub present_yes : (at n : ℕ) (vs : List ℕ) → is_among at vs ≡ true → present_from at (suc n) vs ≡ at ∷ present_from (at + 1) n vs
+unfolding present_from
+present_yes at n vs t = rw t refl
+
+-- a number that is not present is passed
+pub present_no : (at n : ℕ) (vs : List ℕ) → is_among at vs ≡ false → present_from at (suc n) vs ≡ present_from (at + 1) n vs
+unfolding present_from
+present_no at n vs f = rw f refl
+
+-- no more than no numbers are present among none
+pub present_none : (at : ℕ) (vs : List ℕ) → present_from at 0 vs ≡ []
+unfolding present_from
+present_none at vs = refl

@@ -10,6 +10,7 @@ use Rattle.elias_fano.specs.Spelling.{is_among}
 use Rattle.elias_fano.proofs.CallerLemmas.{is_among-push}
 use Rattle.pilot_codecs.specs.Reading.{rise_from, rise_len, are_below, are_used}
 
+-- two truth values that follow from each other are the same
 pub same_bool : (b c : Bool) → (b ≡ true → c ≡ true) → (c ≡ true → b ≡ true) → b ≡ c
 same_bool true c f g = sym (f refl)
 same_bool false true f g = g refl
@@ -28,55 +29,68 @@ each_set [] h = refl
 each_set (false ∷ bs) h = absurd (false≢true (h 0 (omega arith)))
 each_set (true ∷ bs) h = each_set bs (λ k lt. h (suc k) (omega (arith, lt)))
 
+-- what is there is the same if it is the same answer
 pub some_is : (x y : ℕ) → Some x ≡ Some y → x ≡ y
 some_is x y e = cc
 
 -- ---- rising
 
+-- a number above the one before is counted
 pub rise_from-yes : (b d : ℕ) (ds : List ℕ) → b < d → rise_from b (d ∷ ds) ≡ rise_from d ds + 1
 unfolding rise_from
 rise_from-yes b d ds lt = rw (lt-ltb b d lt) refl
 
+-- at one that isn't the count ends
 pub rise_from-no : (b d : ℕ) (ds : List ℕ) → d ≤ b → rise_from b (d ∷ ds) ≡ 0
 unfolding rise_from
 rise_from-no b d ds le = rw (le-ltb b d le) refl
 
+-- nothing more is counted at the end
 pub rise_from-nil : (b : ℕ) → rise_from b [] ≡ 0
 unfolding rise_from
 rise_from-nil b = refl
 
+-- the first is always counted
 pub rise_len-cons : (d : ℕ) (ds : List ℕ) → rise_len (d ∷ ds) ≡ rise_from d ds + 1
 unfolding rise_len
 rise_len-cons d ds = refl
 
+-- none is counted where there is none
 pub rise_len-nil : rise_len [] ≡ 0
 unfolding rise_len
 rise_len-nil = refl
 
+-- all that rise are the first and those that rise from it
 pub rise_first : (ds : List ℕ) → 0 < length ds → rise_from (get_or ds 0 0) (drop 1 ds) + 1 ≡ rise_len ds
 rise_first [] lt = absurd (omega arith)
 rise_first (d ∷ ds) lt = sym (rise_len-cons d ds)
 
+-- a number above the one before it is counted, anywhere
 pub rise_step : (ds : List ℕ) (i b : ℕ) → i < length ds → b < get_or ds i 0 → rise_from b (drop i ds) ≡ rise_from (get_or ds i 0) (drop (i + 1) ds) + 1
 rise_step ds i b lt up = ap (λ (xs : List ℕ). rise_from b xs) (drop_more ds i 0 lt) ∙ rise_from-yes b (get_or ds i 0) (drop (i + 1) ds) up
 
+-- at one that isn't the count ends, anywhere
 pub rise_stop : (ds : List ℕ) (i b : ℕ) → i < length ds → get_or ds i 0 ≤ b → rise_from b (drop i ds) ≡ 0
 rise_stop ds i b lt down = ap (λ (xs : List ℕ). rise_from b xs) (drop_more ds i 0 lt) ∙ rise_from-no b (get_or ds i 0) (drop (i + 1) ds) down
 
 -- ---- indexes below a bound
 
+-- an index below the bound leaves the others to be looked at
 pub are_below-step : (n : ℕ) (ps : List ℕ) (i : ℕ) → i < length ps → get_or ps i 0 < n → are_below n (drop i ps) ≡ are_below n (drop (i + 1) ps)
 unfolding are_below
 are_below-step n ps i lt small = ap (λ (xs : List ℕ). are_below n xs) (drop_more ps i 0 lt) ∙ rw (lt-ltb (get_or ps i 0) n small) refl
 
+-- one that isn't makes the answer false
 pub are_below-stop : (n : ℕ) (ps : List ℕ) (i : ℕ) → i < length ps → n ≤ get_or ps i 0 → are_below n (drop i ps) ≡ false
 unfolding are_below
 are_below-stop n ps i lt large = ap (λ (xs : List ℕ). are_below n xs) (drop_more ps i 0 lt) ∙ rw (le-ltb (get_or ps i 0) n large) refl
 
+-- no index is above any bound
 pub are_below-nil : (n : ℕ) → are_below n [] ≡ true
 unfolding are_below
 are_below-nil n = refl
 
+-- each index is below the bound where all are
 pub are_below-at : (n : ℕ) (ps : List ℕ) (i : ℕ) → are_below n ps ≡ true → i < length ps → get_or ps i 0 < n
 unfolding are_below
 are_below-at n [] i h lt = absurd (omega arith)
@@ -85,6 +99,7 @@ are_below-at n (p ∷ ps) (suc i) h lt = are_below-at n ps i (and_parts (ltb p n
 
 -- ---- each one used
 
+-- each entry is named where all are
 pub are_used-at : (n : ℕ) (ps : List ℕ) (d : ℕ) → are_used n ps ≡ true → d < n → is_among d ps ≡ true
 unfolding are_used
 are_used-at zero ps d h lt = absurd (omega arith)
@@ -95,26 +110,32 @@ are_used-at (suc n) ps d h lt =
       | inr ne ↦ are_used-at n ps d p.1 (omega (arith, ne))
     ]
 
+-- all are named where each is
 pub are_used-from : (n : ℕ) (ps : List ℕ) → ((d : ℕ) → d < n → is_among d ps ≡ true) → are_used n ps ≡ true
 unfolding are_used
 are_used-from zero ps h = refl
 are_used-from (suc n) ps h = and_from (is_among n ps) (are_used n ps) (h n (omega arith)) (are_used-from n ps (λ d lt. h d (omega arith)))
 
+-- nothing is among none
 pub is_among-nil : (n : ℕ) → is_among n [] ≡ false
 unfolding is_among
 is_among-nil n = refl
 
+-- what is among one more is among them or is that one
 pub is_among-more : (n : ℕ) (ps : List ℕ) (i : ℕ) → i < length ps → is_among n (take (i + 1) ps) ≡ (is_among n (take i ps) || eqb n (get_or ps i 0))
 is_among-more n ps i lt = ap (λ (xs : List ℕ). is_among n xs) (take_more ps i 0 lt) ∙ is_among-push n (take i ps) (get_or ps i 0)
 
+-- anything or true is true
 or_yes : (b : Bool) → (b || true) ≡ true
 or_yes true = refl
 or_yes false = refl
 
+-- anything or false is itself
 or_no : (b : Bool) → (b || false) ≡ b
 or_no true = refl
 or_no false = refl
 
+-- a mark more marks what one index more names
 pub marked_more : (used : List Bool) (ps : List ℕ) (i p size : ℕ) → length used ≡ size → i < length ps → p ≡ get_or ps i 0 → p < size →
     ((d : ℕ) → d < size → get_or used d false ≡ is_among d (take i ps)) →
     (d : ℕ) → d < size → get_or (set used p true) d false ≡ is_among d (take (i + 1) ps)
@@ -130,6 +151,7 @@ marked_more used ps i p size n lt e small so_far d ok =
           ∙ sym (more ∙ ap (λ (b : Bool). is_among d (take i ps) || b) (ne_eqb d p ne) ∙ or_no (is_among d (take i ps)))
     ]
 
+-- at most all are counted
 rise_from-le : (b : ℕ) (ds : List ℕ) → rise_from b ds ≤ length ds
 unfolding rise_from
 rise_from-le b [] = omega arith
@@ -139,6 +161,7 @@ rise_from-le b (d ∷ ds) =
       | inr le ↦ rw (le-ltb b d le) (omega arith)
     ]
 
+-- at most all numbers rise
 pub rise_len-le : (ds : List ℕ) → rise_len ds ≤ length ds
 unfolding rise_len
 rise_len-le [] = omega arith

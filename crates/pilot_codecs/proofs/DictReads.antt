@@ -24,12 +24,14 @@ pub record IsDictText (bytes : List ℕ) (count : ℕ) (vs rest : List ℕ) : Ty
   pub count_is : length vs ≡ count
   pub small : greatest vs < 2 ^ 64
 
+-- values from 64-bit entries have 64 bits
 looked_small : (ds places : List ℕ) → ((i : ℕ) → get_or ds i 0 < 2 ^ 64) → greatest (looked_up ds places) < 2 ^ 64
 looked_small ds places fits =
     let most = greatest_within (2 ^ 64 - 1) (looked_up ds places) (λ i lt.
     omega (arith, get_or-map (λ p. get_or ds p 0) places i 0 0 (omega (arith, lt, length-map places (λ p. get_or ds p 0))), fits (get_or places i 0))) in
     omega (arith, most)
 
+-- entries and indexes that are read stood there as the spelling of their values
 entries_take : (at count size : ℕ) (bytes vs rest : List ℕ) → IsBytes bytes → entries_at at count size bytes ≡ Ok (vs, rest) →
     (number size ++ bytes ≡ dict_text vs ++ rest) × IsBytes rest × (length vs ≡ count) × (greatest vs < 2 ^ 64)
 unfolding entries_at indexed_at used_at
@@ -66,6 +68,7 @@ entries_take at count size bytes vs rest fits e =
     List ℕ × List ℕ} (b.0, a.0.1) (vs, rest) b.2)
     (subst (λ (x : List ℕ). (number size ++ bytes ≡ dict_text x ++ a.0.1) × IsBytes a.0.1 × (length x ≡ count) × (greatest x < 2 ^ 64)) same made)
 
+-- a list that is read stood there as its spelling
 pub dict_takes : (at count : ℕ) (bytes vs rest : List ℕ) → IsBytes bytes → dict_at at count bytes ≡ Ok (vs, rest) → IsDictText bytes count vs rest
 unfolding dict_at
 dict_takes at count bytes vs rest fits e =
@@ -76,6 +79,7 @@ dict_takes at count bytes vs rest fits e =
     let p = entries_take at count a.0.0 a.0.1 vs rest t.0.rest_fits g.1 in
     record { taken = record { parts = t.0.parts ∙ p.0; rest_fits = p.1 }; count_is = p.2; small = p.3 }
 
+-- the spelling of a list is read as that list
 pub dict_again : (at : ℕ) (vs rest : List ℕ) → greatest vs < 2 ^ 64 → length vs ≤ 2 ^ 30 → dict_at at (length vs) (dict_text vs ++ rest) ≡ Ok (vs, rest)
 unfolding dict_text
 dict_again at vs rest small few =

@@ -14,6 +14,7 @@ use Rattle.pilot_codecs.specs.Reading.{fields}
 
 -- ---- the width of a number
 
+-- a number is below the power after its logarithm
 below_digits : (most n : ℕ) → n < 2 ^ suc most → n < 2 ^ (log2_within most n + 1)
 unfolding log2_within
 below_digits zero n lt = omega (arith, pow-suc 2 0)
@@ -27,41 +28,50 @@ below_digits (suc most) n lt =
           rw (le-ltb n 2 large) (omega (arith, half, more))
     ]
 
+-- a number is below the power of its digits
 pub lt-digits_of : (n : ℕ) → n < 2 ^ 64 → n < 2 ^ digits_of n
 unfolding digits_of
 lt-digits_of n lt = below_digits 63 n lt
 
+-- a 64-bit number has at most 64 digits
 pub digits_of-le : (n : ℕ) → digits_of n ≤ 64
 unfolding digits_of
 digits_of-le n = omega (arith, log2-le 63 n)
 
+-- a number has at least one digit
 pub digits_of-pos : (n : ℕ) → 0 < digits_of n
 unfolding digits_of
 digits_of-pos n = omega arith
 
+-- zero has one digit
 pub digits_of-none : (n : ℕ) → n ≡ 0 → digits_of n ≡ 1
 unfolding digits_of log2_within
 digits_of-none n e = rw e refl
 
+-- between two powers the digits are the upper exponent
 pub digits_of-is : (n r : ℕ) → n < 2 ^ 64 → 2 ^ r ≤ n → n < 2 * 2 ^ r → digits_of n ≡ r + 1
 unfolding digits_of
 digits_of-is n r lt low high = ap (λ (x : ℕ). x + 1) (log2_is 63 n r lt low high)
 
 -- ---- the greatest value
 
+-- the greatest of none is 0
 pub greatest-nil : greatest [] ≡ 0
 unfolding greatest
 greatest-nil = refl
 
+-- the greatest is the first or one of the others
 pub greatest-cons : (v : ℕ) (vs : List ℕ) → greatest (v ∷ vs) ≡ max v (greatest vs)
 unfolding greatest
 greatest-cons v vs = refl
 
+-- a value behind others is compared with their greatest
 pub greatest-push : (vs : List ℕ) (v : ℕ) → greatest (vs ++ v ∷ []) ≡ max (greatest vs) v
 unfolding greatest
 greatest-push [] v = omega arith
 greatest-push (x ∷ vs) v = omega (arith, greatest-push vs v)
 
+-- no value is above the greatest
 pub get_or-le-greatest : (vs : List ℕ) (i : ℕ) → get_or vs i 0 ≤ greatest vs
 unfolding greatest
 get_or-le-greatest [] i = omega arith
@@ -70,11 +80,13 @@ get_or-le-greatest (v ∷ vs) (suc i) = omega (arith, get_or-le-greatest vs i)
 
 -- ---- fields
 
+-- there are as many fields as asked for
 pub length-fields : (n w : ℕ) (bits : List Bool) → length (fields n w bits) ≡ n
 unfolding fields
 length-fields zero w bits = refl
 length-fields (suc n) w bits = ap suc (length-fields n w (drop w bits))
 
+-- a field is the number of the bits at its place
 pub get_or-fields : (n w : ℕ) (bits : List Bool) (i : ℕ) → i < n → get_or (fields n w bits) i 0 ≡ number_of (take w (drop (i * w) bits))
 unfolding fields
 get_or-fields zero w bits i lt = absurd (omega arith)
@@ -84,6 +96,7 @@ get_or-fields (suc n) w bits (suc i) lt =
     get_or-fields n w (drop w bits) i (omega arith)
     ∙ ap (λ (bs : List Bool). number_of (take w bs)) (drop-drop (i * w) w bits ∙ ap (λ (j : ℕ). drop j bits) place)
 
+-- the bits of the fields are the bits
 pub bits_of_each-fields : (n w : ℕ) (bits : List Bool) → length bits ≡ n * w → bits_of_each w (fields n w bits) ≡ bits
 unfolding fields bits_of_each
 bits_of_each-fields zero w bits e = sym (nil_from_length bits (omega (arith, e)))
@@ -94,6 +107,7 @@ bits_of_each-fields (suc n) w bits e =
     let others = bits_of_each-fields n w (drop w bits) (omega (arith, length-drop w bits, e)) in
     ap (λ (bs : List Bool). bs ++ bits_of_each w (fields n w (drop w bits))) first ∙ ap (λ (bs : List Bool). take w bits ++ bs) others ∙ take-append-drop w bits
 
+-- the fields of the bits of values are these values
 pub fields-bits_of_each : (w : ℕ) (vs : List ℕ) → greatest vs < 2 ^ w → fields (length vs) w (bits_of_each w vs) ≡ vs
 unfolding fields bits_of_each greatest
 fields-bits_of_each w [] lt = refl

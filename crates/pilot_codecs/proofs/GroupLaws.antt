@@ -20,26 +20,31 @@ kept_through old more mid new e kept =
     let longer : length old ≤ length mid = omega (arith, ap length e, length-append old more) in
     sym (take-take (length old) (length mid) new longer) ∙ ap (λ (xs : List ℕ). take (length old) xs) (kept ∙ e) ∙ take_at old more (length old) refl
 
+-- the greatest of two lists is the greater of both
 pub greatest-append : (xs ys : List ℕ) → greatest (xs ++ ys) ≡ max (greatest xs) (greatest ys)
 unfolding greatest
 greatest-append [] ys = omega arith
 greatest-append (x ∷ xs) ys = omega (arith, greatest-append xs ys)
 
+-- the first values have no greater one
 pub greatest-take : (k : ℕ) (xs : List ℕ) → greatest (take k xs) ≤ greatest xs
 unfolding greatest
 greatest-take zero xs = omega arith
 greatest-take (suc k) [] = omega arith
 greatest-take (suc k) (x ∷ xs) = omega (arith, greatest-take k xs)
 
+-- neither have the values after others
 pub greatest-drop : (k : ℕ) (xs : List ℕ) → greatest (drop k xs) ≤ greatest xs
 unfolding greatest
 greatest-drop zero xs = omega arith
 greatest-drop (suc k) [] = omega arith
 greatest-drop (suc k) (x ∷ xs) = omega (arith, greatest-drop k xs)
 
+-- the values of all groups
 abbrev pub flat : List (List ℕ) → List ℕ
 flat gs = flat_map (λ g. g) gs
 
+-- what a reading of groups took
 pub record IsGroupsText (bytes : List ℕ) (count : ℕ) (gs : List (List ℕ)) (rest : List ℕ) : Type 0 where
   pub taken : Takes bytes (flat_map compact_text gs) rest
   pub count_is : length (flat gs) ≡ count
@@ -66,6 +71,7 @@ cut_more n count g gs lt size others cut =
     ∙ ap (λ (xs : List ℕ). g ∷ groups_of (groups_for (count - 256)) xs) parts.1
     ∙ ap (λ (hs : List (List ℕ)). g ∷ hs) cut
 
+-- groups that are read stood there as the spelling of their values
 pub groups_take : (n at count : ℕ) (bytes : List ℕ) (gs : List (List ℕ)) (rest : List ℕ) → n ≡ groups_for count → IsBytes bytes →
     groups_at n at count bytes ≡ Ok (gs, rest) → IsGroupsText bytes count gs rest
 unfolding groups_at groups_of greatest
@@ -98,6 +104,7 @@ groups_take (suc n) at count bytes gs rest k fits e =
     } in
     subst (λ (p : List (List ℕ) × List ℕ). IsGroupsText bytes count p.0 p.1) (ok_is {A = List (List ℕ) × List ℕ} (a.0.0 ∷ b.0.0, b.0.1) (gs, rest) b.2) made
 
+-- the spelling of groups is read as these groups
 pub groups_again : (n at : ℕ) (vs rest : List ℕ) → greatest vs < 2 ^ 64 → n ≡ groups_for (length vs) →
     groups_at n at (length vs) (flat_map compact_text (groups_of n vs) ++ rest) ≡ Ok (groups_of n vs, rest)
 unfolding groups_at groups_of
@@ -120,21 +127,25 @@ groups_again (suc n) at vs rest small k =
     ∙ groups_again n place (drop 256 vs) rest (omega (arith, greatest-drop 256 vs)) (omega (arith, k, groups_for-more (length vs) lt, behind)) in
     rw (first, more) refl
 
+-- a fault of the groups is that of the list
 pub parted_at-fails : (e : ReadErr) (at count : ℕ) (bytes : List ℕ) → Fails e (groups_at (groups_for count) at count bytes) → Fails e (parted_at at count bytes)
 unfolding parted_at
 parted_at-fails errors.NoMemory at count bytes h = tt
 parted_at-fails (errors.Form f) at count bytes h = rw h refl
 
+-- without a fault the groups are the list
 pub parted_at-ok : (at count : ℕ) (bytes : List ℕ) (gs : List (List ℕ)) (rest : List ℕ) → groups_at (groups_for count) at count bytes ≡ Ok (gs, rest) →
     parted_at at count bytes ≡ Ok (flat gs, rest)
 unfolding parted_at
 parted_at-ok at count bytes gs rest h = rw h refl
 
+-- what a reading of a list in groups took
 pub record IsPartedText (bytes : List ℕ) (count : ℕ) (vs rest : List ℕ) : Type 0 where
   pub taken : Takes bytes (parted_text vs) rest
   pub count_is : length vs ≡ count
   pub small : greatest vs < 2 ^ 64
 
+-- a list that is read stood there as its spelling
 pub parted_takes : (at count : ℕ) (bytes vs rest : List ℕ) → IsBytes bytes → parted_at at count bytes ≡ Ok (vs, rest) → IsPartedText bytes count vs rest
 unfolding parted_at parted_text
 parted_takes at count bytes vs rest fits e =
@@ -146,6 +157,7 @@ parted_takes at count bytes vs rest fits e =
     let made : IsPartedText bytes count (flat a.0.0) a.0.1 = record { taken = taken; count_is = t.count_is; small = t.small } in
     subst (λ (p : List ℕ × List ℕ). IsPartedText bytes count p.0 p.1) (ok_is {A = List ℕ × List ℕ} (flat a.0.0, a.0.1) (vs, rest) a.2) made
 
+-- the spelling of a list is read as that list
 pub parted_again : (at : ℕ) (vs rest : List ℕ) → greatest vs < 2 ^ 64 → parted_at at (length vs) (parted_text vs ++ rest) ≡ Ok (vs, rest)
 unfolding parted_text
 parted_again at vs rest small =

@@ -13,20 +13,24 @@ use Rattle.pilot_codecs.specs.Spelling.{groups_for, groups_of}
 use Rattle.pilot_codecs.specs.Reading.{compact_at, groups_at}
 use Rattle.pilot_codecs.specs.Parts.{group_more_at}
 
+-- where there are values, there is a first group, and the others are those of the rest
 pub groups_for-more : (count : ℕ) → 0 < count → groups_for count ≡ suc (groups_for (count - 256))
 groups_for-more count lt = omega arith
 
+-- as many groups as asked for are cut
 pub length-groups_of : (n : ℕ) (vs : List ℕ) → length (groups_of n vs) ≡ n
 unfolding groups_of
 length-groups_of zero vs = refl
 length-groups_of (suc n) vs = ap suc (length-groups_of n (drop 256 vs))
 
+-- the groups of a list are the list
 pub flat-groups_of : (n : ℕ) (vs : List ℕ) → length vs ≤ 256 * n → flat_map (λ g. g) (groups_of n vs) ≡ vs
 unfolding groups_of
 flat-groups_of zero vs le = sym (Rattle.std.proofs.lemmas.List.nil_from_length vs (omega (arith, le)))
 flat-groups_of (suc n) vs le = ap (λ (xs : List ℕ). take 256 vs ++ xs) (flat-groups_of n (drop 256 vs) (omega (arith, length-drop 256 vs)))
     ∙ take-append-drop 256 vs
 
+-- the first group is the first 256 values, and the others are those of the rest
 pub groups_of-more : (vs : List ℕ) → 0 < length vs →
     groups_of (groups_for (length vs)) vs ≡ take 256 vs ∷ groups_of (groups_for (length (drop 256 vs))) (drop 256 vs)
 unfolding groups_of
@@ -34,10 +38,12 @@ groups_of-more vs lt =
     ap (λ (k : ℕ). groups_of k vs) (groups_for-more (length vs) lt)
     ∙ ap (λ (k : ℕ). take 256 vs ∷ groups_of (groups_for k) (drop 256 vs)) (sym (length-drop 256 vs))
 
+-- an empty list has no groups
 pub groups_of-none : (vs : List ℕ) → length vs ≡ 0 → groups_of (groups_for (length vs)) vs ≡ []
 unfolding groups_of
 groups_of-none vs e = ap (λ (k : ℕ). groups_of (groups_for k) vs) e
 
+-- a group is 256 values from its place on
 get_or-groups_of : (n : ℕ) (vs : List ℕ) (g : ℕ) (d : List ℕ) → g < n → get_or (groups_of n vs) g d ≡ take 256 (drop (256 * g) vs)
 unfolding groups_of
 get_or-groups_of zero vs g d lt = absurd (omega arith)
@@ -46,18 +52,21 @@ get_or-groups_of (suc n) vs (suc g) d lt =
     let place : 256 + 256 * g ≡ 256 * suc g = omega arith in
     get_or-groups_of n (drop 256 vs) g d (omega arith) ∙ ap (λ (xs : List ℕ). take 256 xs) (drop-drop (256 * g) 256 vs ∙ ap (λ (k : ℕ). drop k vs) place)
 
+-- a value among the first is the same value
 slice_get-take : (k : ℕ) (xs : List ℕ) (r : ℕ) → r < k → slice_get (take k xs) r ≡ slice_get xs r
 slice_get-take zero xs r lt = absurd (omega arith)
 slice_get-take (suc k) [] r lt = refl
 slice_get-take (suc k) (x ∷ xs) zero lt = refl
 slice_get-take (suc k) (x ∷ xs) (suc r) lt = slice_get-take k xs r (omega arith)
 
+-- a value after others is the value that far on
 slice_get-drop : (k : ℕ) (xs : List ℕ) (r i : ℕ) → k + r ≡ i → slice_get (drop k xs) r ≡ slice_get xs i
 slice_get-drop zero xs r i e = ap (λ (j : ℕ). slice_get xs j) (omega arith)
 slice_get-drop (suc k) [] r i e = refl
 slice_get-drop (suc k) (x ∷ xs) r zero e = absurd (omega arith)
 slice_get-drop (suc k) (x ∷ xs) r (suc i) e = slice_get-drop k xs r i (omega arith)
 
+-- the group of a value is the 256 from its place on
 group_is : (groups : List (List ℕ)) (vs : List ℕ) (i : ℕ) → groups_of (groups_for (length vs)) vs ≡ groups → i < length vs →
     get_or groups (i / 256) [] ≡ take 256 (drop (256 * (i / 256)) vs)
 group_is groups vs i cut lt = ap (λ (gs : List (List ℕ)). get_or gs (i / 256) []) (sym cut)
@@ -87,14 +96,17 @@ get_or-group groups vs i cut lt =
 abbrev pub with_front : List (List ℕ) → Result (List (List ℕ) × List ℕ) FormFault → Result (List (List ℕ) × List ℕ) FormFault
 with_front front read = read >>= λ x. Ok (front ++ x.0, x.1)
 
+-- a group in front of what is read moves to what was read
 regroup : (front : List (List ℕ)) (g : List ℕ) (read : Result (List (List ℕ) × List ℕ) FormFault) →
     with_front front (read >>= λ x. Ok (g ∷ x.0, x.1)) ≡ with_front (front ++ g ∷ []) read
 regroup front g (Ok x) = ap (λ (gs : List (List ℕ)). Ok (gs, x.1)) (simp append_assoc)
 regroup front g (Err f) = refl
 
+-- what is left after a group is what is left after 256 values, or nothing
 size_is : (left size : ℕ) → 0 < left → size ≡ min 256 left → left - size ≡ left - 256
 size_is left size lt e = omega arith
 
+-- a group that is read moves to what was read
 pub goes_on : (front : List (List ℕ)) (left place size : ℕ) (bytes g after : List ℕ) (total : Result (List (List ℕ) × List ℕ) FormFault) → 0 < left →
     size ≡ min 256 left → compact_at place size bytes ≡ Ok (g, after) →
     with_front front (groups_at (groups_for left) place left bytes) ≡ total →
@@ -109,6 +121,7 @@ goes_on front left place size bytes g after total lt s h so_far =
     rw (k, read) (regroup front g (groups_at (groups_for (left - 256)) (place + (length bytes - length after)) (left - 256) after)) in
     ap (λ (j : ℕ). with_front (front ++ g ∷ []) (groups_at (groups_for j) (place + (length bytes - length after)) j after)) next ∙ sym one ∙ so_far
 
+-- a fault of the next group is that of all of them
 pub ends : (e : ReadErr) (front : List (List ℕ)) (left place size : ℕ) (bytes : List ℕ) (total : Result (List (List ℕ) × List ℕ) FormFault) → 0 < left →
     size ≡ min 256 left → Fails e (compact_at place size bytes) →
     with_front front (groups_at (groups_for left) place left bytes) ≡ total → Fails e total
@@ -120,6 +133,7 @@ ends (errors.Form f) front left place size bytes total lt s h so_far =
     let one : with_front front (groups_at (groups_for left) place left bytes) ≡ Err f = rw (k, read) refl in
     sym so_far ∙ one
 
+-- where no values are left, what was read is all
 pub is_done : (front : List (List ℕ)) (left place : ℕ) (bytes : List ℕ) (total : Result (List (List ℕ) × List ℕ) FormFault) → left ≡ 0 →
     with_front front (groups_at (groups_for left) place left bytes) ≡ total → total ≡ Ok (front, bytes)
 unfolding groups_at
@@ -131,11 +145,13 @@ is_done front left place bytes total e so_far =
 
 -- ---- a group more
 
+-- the groups with one more that stood in front of the bytes
 pub record IsMore (groups new : List (List ℕ)) (at count : ℕ) (bytes after : List ℕ) : Type 0 where
   pub group : List ℕ
   pub read : compact_at at count bytes ≡ Ok (group, after)
   pub more : new ≡ groups ++ group ∷ []
 
+-- a group more that is read stands behind the others
 pub more_read : (groups new : List (List ℕ)) (at count : ℕ) (bytes after : List ℕ) → group_more_at groups at count bytes ≡ Ok (new, after) →
     IsMore groups new at count bytes after
 more_read groups new at count bytes after e =
@@ -147,22 +163,27 @@ more_read groups new at count bytes after e =
       more = sym (ap (λ (p : List (List ℕ) × List ℕ). p.0) both);
     }
 
+-- a group that is read stands behind the others
 pub group_more_at-ok : (groups : List (List ℕ)) (at count : ℕ) (bytes group after : List ℕ) → compact_at at count bytes ≡ Ok (group, after) →
     group_more_at groups at count bytes ≡ Ok (groups ++ group ∷ [], after)
 group_more_at-ok groups at count bytes group after h = rw h refl
 
+-- a fault of the group is that of the groups
 pub group_more_at-fails : (e : ReadErr) (groups : List (List ℕ)) (at count : ℕ) (bytes : List ℕ) → Fails e (compact_at at count bytes) →
     Fails e (group_more_at groups at count bytes)
 group_more_at-fails errors.NoMemory groups at count bytes h = tt
 group_more_at-fails (errors.Form f) groups at count bytes h = rw h refl
 
+-- the groups with one more
 abbrev pub with_more : List (List ℕ) → List ℕ × List ℕ → Result (List (List ℕ) × List ℕ) FormFault
 with_more groups x = Ok (groups ++ x.0 ∷ [], x.1)
 
+-- a fault of the groups with one more is that of the one
 not_more : (groups : List (List ℕ)) (read : Result (List ℕ × List ℕ) FormFault) (f : FormFault) → (read >>= with_more groups) ≡ Err f → read ≡ Err f
 not_more groups (Ok x) f e = absurd cc
 not_more groups (Err g) f e = let same : g ≡ f = cc in ap Err same
 
+-- so it is with any error
 pub compact_at-fails : (e : ReadErr) (groups : List (List ℕ)) (at count : ℕ) (bytes : List ℕ) → Fails e (group_more_at groups at count bytes) →
     Fails e (compact_at at count bytes)
 compact_at-fails errors.NoMemory groups at count bytes h = tt

@@ -17,6 +17,7 @@ use Rattle.pilot_codecs.proofs.CompactLemmas.{length-values_in, compact_text-val
 pub appended : (old more new : List ℕ) → new ≡ old ++ more → drop (length old) new ≡ more
 appended old more new e = ap (λ (xs : List ℕ). drop (length old) xs) e ∙ drop_at old more (length old) refl
 
+-- what was put behind others is what stands from their end on
 pub behind : (old more new : List ℕ) (start : ℕ) → new ≡ old ++ more → start ≡ length old → take (length new - start) (drop start new) ≡ more
 behind old more new start e s = take_rest new start ∙ ap (λ (k : ℕ). drop k new) s ∙ appended old more new e
 
@@ -26,6 +27,7 @@ pub record IsRead (count w size : ℕ) (bytes old new read : List ℕ) : Type 0 
   pub read_is : read ≡ words_in size bytes
   pub new_is : drop (length old) new ≡ words_in size bytes
 
+-- words that were read and put behind others are the new ones
 pub words_read : (count w width size start : ℕ) (bytes old new seen : List ℕ) → width ≡ w → size ≡ words_for (count * width) → start ≡ length old →
     seen ≡ new → new ≡ old ++ words_in size bytes →
     IsRead count w size bytes old new (take (length seen - start) (drop start seen))
@@ -36,6 +38,7 @@ words_read count w width size start bytes old new seen same s at all e =
       new_is = appended old (words_in size bytes) new e;
     }
 
+-- what keeps others in front is not shorter
 longer : (old new : List ℕ) → take (length old) new ≡ old → length old ≤ length new
 longer old new kept = omega (arith, ap length kept, length-take (length old) new)
 
@@ -51,15 +54,18 @@ words_under-kept old new head kept h =
     ap (λ (xs : List ℕ). take n (drop s xs)) whole ∙ ap (λ (xs : List ℕ). take n xs) (drop-append-le s old more in_old)
     ∙ take-append-le n (drop s old) more room
 
+-- a group stays one as words are put behind
 IsGroup-kept : (old new : List ℕ) (head : Head) → take (length old) new ≡ old → IsGroup old head → IsGroup new head
 IsGroup-kept old new head kept h = record {
   within = omega (arith, h.within, longer old new kept);
   compact = subst (λ (ws : List ℕ). IsCompact head.count head.width ws) (sym (words_under-kept old new head kept h)) h.compact;
 }
 
+-- so do all groups
 pub AreGroups-kept : (old new : List ℕ) (heads : List Head) → take (length old) new ≡ old → AreGroups old heads → AreGroups new heads
 AreGroups-kept old new heads kept h k d lt = IsGroup-kept old new (get_or heads k d) kept (h k d lt)
 
+-- and their values stay
 pub groups-kept : (old new : List ℕ) (heads : List Head) → take (length old) new ≡ old → AreGroups old heads →
     map (group_in new) heads ≡ map (group_in old) heads
 groups-kept old new [] kept h = refl
@@ -75,23 +81,27 @@ pub record IsAdded (old new : List ℕ) (head : Head) : Type 0 where
   pub start : head.start ≡ length old
   pub compact : IsCompact head.count head.width (drop (length old) new)
 
+-- the words of a group that was added are those behind the old ones
 words_under-added : (old new : List ℕ) (head : Head) → IsAdded old new head → words_under new head ≡ drop (length old) new
 words_under-added old new head a =
     let n = words_for (head.count * head.width) in
     ap (λ (s : ℕ). take n (drop s new)) a.start ∙ take_all n (drop (length old) new) (omega (arith, a.compact.packed_are.count))
 
+-- a group that was added is one
 IsGroup-added : (old new : List ℕ) (head : Head) → IsAdded old new head → IsGroup new head
 IsGroup-added old new head a = record {
   within = omega (arith, a.start, a.compact.packed_are.count, length-drop (length old) new, longer old new a.kept);
   compact = subst (λ (ws : List ℕ). IsCompact head.count head.width ws) (sym (words_under-added old new head a)) a.compact;
 }
 
+-- with it all are groups
 pub AreGroups-added : (old new : List ℕ) (heads more : List Head) (head : Head) → AreGroups old heads → IsAdded old new head → more ≡ heads ++ head ∷ [] →
     AreGroups new more
 AreGroups-added old new heads more head h a e =
     subst (λ (hs : List Head). AreGroups new hs) (sym e)
     (All-push (IsGroup new) heads head (AreGroups-kept old new heads a.kept h) (IsGroup-added old new head a))
 
+-- and its values stand behind those of the others
 pub groups-added : (old new : List ℕ) (heads more : List Head) (head : Head) → AreGroups old heads → IsAdded old new head → more ≡ heads ++ head ∷ [] →
     map (group_in new) more ≡ map (group_in old) heads ++ values_in head.count head.width (drop (length old) new) ∷ []
 groups-added old new heads more head h a e =
@@ -113,6 +123,7 @@ pub record HasValue (words : List ℕ) (heads : List Head) (g i : ℕ) (head : H
   pub values : get_or (map (group_in words) heads) g [] ≡ group_in words head
   pub inside : i < head.count
 
+-- a group that has a value is one, and its head counts that value
 pub has_value : (words : List ℕ) (heads : List Head) (g i : ℕ) (head : Head) → AreGroups words heads → head ≡ get_or heads g head →
     i < length (get_or (map (group_in words) heads) g []) → HasValue words heads g i head
 has_value words heads g i head h e lt =

@@ -1,5 +1,6 @@
 pub mod FieldLemmas
 pub mod CompactLemmas
+pub mod TopLemmas
 pub mod CompactLaws
 pub mod HeadLemmas
 pub mod GroupLemmas

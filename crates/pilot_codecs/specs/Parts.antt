@@ -1,5 +1,5 @@
 -- What the fields of the parts keep.
-use Rattle.std.specs.Prelude.{ℕ, ◌≡◌, ◌+◌, ◌*◌, ◌^◌, ◌≤◌, true, List, [], ◌∷◌, ◌++◌, length, take, drop, Result, Ok}
+use Rattle.std.specs.Prelude.{ℕ, ◌≡◌, ◌+◌, ◌*◌, ◌^◌, ◌<◌, ◌≤◌, true, List, [], ◌∷◌, ◌++◌, length, take, drop, slice_index, Result, Ok}
 use Rattle.std.specs.List.{flat_map, All}
 use Rattle.bit_vector.specs.Bits.{bits_of, words_number, words_for, IsPacked}
 use Rattle.elias_fano.specs.declared.fault.FormFault.{FormFault}
@@ -50,3 +50,7 @@ pub record IsDict (ds places : List ℕ) : Type 0 where
   pub rising : rise_len ds ≡ length ds
   pub below : are_below (length ds) places ≡ true
   pub used : are_used (length ds) places ≡ true
+
+-- a table has the index of each entry at the entry, as far as it goes
+pub record IsTable (ds table : List ℕ) : Type 0 where
+  pub at : (i : ℕ) → i < length ds → slice_index ds i < length table → slice_index table (slice_index ds i) ≡ i

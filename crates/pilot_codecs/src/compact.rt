@@ -1,5 +1,5 @@
 // Numbers in the width of the greatest.
-ghost use Rattle.std.specs.Prelude.{◌≡◌, ◌+◌, ◌*◌, ◌^◌, ◌≤◌, ◌++◌, length, take, drop, IfOk, OnOk, IsTrue};
+ghost use Rattle.std.specs.Prelude.{◌≡◌, ◌+◌, ◌*◌, ◌^◌, ◌<◌, ◌≤◌, ◌++◌, ◌↔◌, length, take, drop, IfOk, OnOk, IsTrue};
 ghost use Rattle.std.specs.List.{slice_get, flat_map};
 ghost use Rattle.elias_fano.specs.Spelling.{number};
 ghost use Rattle.elias_fano.specs.Values.{below_len};
@@ -42,8 +42,8 @@ pub fn digits(n: u64) -> u32
     if n == 0 { 1 } else { n.ilog2() + 1 }
 }
 
-// The greatest value, 0 if there is none.
-fn greatest_of(values: &[u64]) -> u64
+/// The greatest value, 0 if there is none.
+pub fn greatest_of(values: &[u64]) -> u64
     ensures { result ≡ greatest values.now }
 {
     let mut most = 0;
@@ -53,18 +53,51 @@ fn greatest_of(values: &[u64]) -> u64
     most
 }
 
-// The greatest of the fields of words.
-fn greatest_in(words: &[u64], count: u64, width: u32) -> u64
+// Whether a width is that of the greatest field: it is 1, or some field has its top bit set.
+fn is_width_of(words: &[u64], count: u64, width: u32) -> bool
     requires few { count ≤ 2 ^ 30 }
+    requires some { 0 < width }
     requires wide { width ≤ 64 }
     requires room { count * width ≤ 64 * length words.now }
-    ensures { result ≡ greatest (values_in count width words.now) }
+    ensures { IsTrue result ↔ digits_of (greatest (values_in count width words.now)) ≡ width }
 {
-    let mut most = 0;
-    for i in 0..count {
-        most = most.max(bits_at(words, (i * u64::from(width)) as usize, width));
+    if width == 1 {
+        return true;
     }
-    most
+    let top = 1 << (width - 1);
+    for i in 0..count {
+        if bits_at(words, (i * u64::from(width)) as usize, width) >= top {
+            return true;
+        }
+    }
+    false
+}
+
+/// How many of the fields of words are below a bound, up to the first that isn't: all at once where
+/// no number of that width reaches it.
+pub fn below_in(words: &[u64], count: u64, width: u32, bound: u64) -> u64
+    requires { IsCompact count width words.now }
+    ensures { result ≡ below_len bound (values_in count width words.now) }
+{
+    if is_narrow(width, bound) {
+        return count;
+    }
+    for i in 0..count {
+        if bits_at(words, (i * u64::from(width)) as usize, width) >= bound {
+            return i;
+        }
+    }
+    count
+}
+
+// Whether no number of a width reaches a bound.
+fn is_narrow(width: u32, bound: u64) -> bool
+    ensures { IsTrue result → 2 ^ width ≤ bound }
+{
+    if width >= 64 {
+        return false;
+    }
+    1 << width <= bound
 }
 
 /// Appends the words of values, from a new one on, and gives the width; on want of memory a part of them.
@@ -129,6 +162,7 @@ fn read_packed<'a>(
     bytes: &'a [u8],
 ) -> Result<&'a [u8], ReadErr>
     requires few { count ≤ 2 ^ 30 }
+    requires some { 0 < width }
     requires wide { width ≤ 64 }
     requires place { at ≤ 2 ^ 63 + 2 ^ 50 }
     ensures values { Gives (λ x. (
@@ -150,7 +184,7 @@ fn read_packed<'a>(
     let start = words.len();
     append_words(words, bytes, size as usize)?;
     let read = &words[start..];
-    if digits(greatest_in(read, count, width)) != width {
+    if !is_width_of(read, count, width) {
         return Err(ReadErr::Form(FormFault { at, kind: WIDTH }));
     }
     if !is_packed(read, len) {
@@ -195,14 +229,11 @@ impl Compact {
         Some(bits_at(&self.words, place as usize, self.width))
     }
 
-    /// Whether no value of this width reaches a bound.
-    pub fn is_within(&self, bound: u64) -> bool
-        ensures { IsTrue result → below_len bound self.now ≡ length self.now }
+    /// How many values at the front are below a bound.
+    pub fn below(&self, bound: u64) -> u64
+        ensures { result ≡ below_len bound self.now }
     {
-        if self.width >= 64 {
-            return false;
-        }
-        1 << self.width <= bound
+        below_in(&self.words, self.count, self.width, bound)
     }
 
     /// Appends the spelling; on want of memory a part of it.

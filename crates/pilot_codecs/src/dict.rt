@@ -9,7 +9,7 @@ ghost use Rattle.pilot_codecs.specs.Reading.{rise_len, used_at, indexed_at, entr
 
 use crate::compact::Compact;
 use crate::distinct::{distinct_of, indexes_of};
-use crate::entries::{are_all_below, are_all_used, rise};
+use crate::entries::{below_and_used, rise};
 use bit_vector::NoMemory;
 use elias_fano::{COUNT, FormFault, ORDER, ReadErr, SHORT, append_words, put_numbers, read_number};
 use std::alloc::Global;
@@ -166,14 +166,14 @@ fn used_of(alloc: Global, at: u64, entries: Vec<u64>, places: Compact) -> Result
     requires place { at ≤ 2 ^ 63 + 2 ^ 49 }
     ensures { Gives (λ x. x) result (used_at at entries.items places) }
 {
-    let size = entries.len() as u64;
-    if !are_all_below(&places, size) {
+    let size = entries.len();
+    let (below, used) = below_and_used(alloc, &places, size)?;
+    if !below {
         return Err(ReadErr::Form(FormFault {
-            at: at + 8 + 8 * size + 8,
+            at: at + 8 + 8 * size as u64 + 8,
             kind: COUNT,
         }));
     }
-    let used = are_all_used(alloc, &places, entries.len())?;
     if !used {
         return Err(ReadErr::Form(FormFault { at, kind: COUNT }));
     }

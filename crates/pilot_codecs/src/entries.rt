@@ -1,5 +1,5 @@
 // What a dictionary and its indexes must keep.
-ghost use Rattle.std.specs.Prelude.{◌≡◌, true, IfOk};
+ghost use Rattle.std.specs.Prelude.{◌≡◌, IfOk, IsTrue};
 ghost use Rattle.pilot_codecs.specs.Reading.{rise_len, are_below, are_used};
 
 use crate::compact::Compact;
@@ -18,28 +18,23 @@ pub fn rise(entries: &[u64]) -> usize
     entries.len()
 }
 
-/// Whether each index is below the size.
-pub fn are_all_below(places: &Compact, size: u64) -> bool
-    ensures { result ≡ are_below size places.now }
-{
-    for i in 0..places.len() {
-        let place = places.get(i).unwrap();
-        if place >= size {
-            return false;
-        }
-    }
-    true
-}
-
-/// Whether each number below the size is an index.
-pub fn are_all_used(alloc: Global, places: &Compact, size: usize) -> Result<bool, NoMemory>
-    requires below { are_below size places.now ≡ true }
-    ensures { IfOk result (λ b. b ≡ are_used size places.now) }
+/// Whether each index is below the size, and if so whether each number below the size is an index,
+/// in one pass over the indexes.
+pub fn below_and_used(
+    alloc: Global,
+    places: &Compact,
+    size: usize,
+) -> Result<(bool, bool), NoMemory>
+    ensures below { IfOk result (λ b. b.0 ≡ are_below size places.now) }
+    ensures used { IfOk result (λ b. IsTrue b.0 → b.1 ≡ are_used size places.now) }
 {
     let mut used = vec![in alloc; false; size]?;
     for i in 0..places.len() {
         let place = places.get(i).unwrap();
+        if place >= size as u64 {
+            return Ok((false, false));
+        }
         used[place as usize] = true;
     }
-    Ok(!used.contains(&false))
+    Ok((true, !used.contains(&false)))
 }

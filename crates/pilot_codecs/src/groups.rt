@@ -2,13 +2,14 @@
 ghost use Rattle.std.specs.Prelude.{◌≡◌, ◌+◌, ◌*◌, ◌^◌, ◌<◌, ◌≤◌, ◌++◌, [], ◌∷◌, length, take, slice_index, slice_index_or, OnOk, OnErr};
 ghost use Rattle.std.specs.List.{flat_map};
 ghost use Rattle.bit_vector.specs.Bits.{words_for};
+ghost use Rattle.elias_fano.specs.Values.{below_len};
 ghost use Rattle.elias_fano.specs.Reading.{Gives};
 ghost use Rattle.pilot_codecs.specs.Spelling.{compact_text, groups_for};
 ghost use Rattle.pilot_codecs.specs.Reading.{groups_at};
 ghost use Rattle.pilot_codecs.specs.Parts.{words_under, group_more_at};
 
 use crate::GROUP;
-use crate::compact::{append_values, put_values, read_values};
+use crate::compact::{append_values, below_in, put_values, read_values};
 use bit_vector::{NoMemory, bits_at};
 use elias_fano::ReadErr;
 use std::alloc::Global;
@@ -92,6 +93,24 @@ impl Groups {
         let head = self.heads[group];
         let place = i * u64::from(head.width);
         bits_at(words_of(&self.words, head), place as usize, head.width)
+    }
+
+    /// How many values at the front are below a bound: a group whose width can't reach it is passed
+    /// without a look.
+    pub fn below(&self, bound: u64) -> u64
+        requires { length (flat_map (λ g. g) self.now) ≤ 2 ^ 30 }
+        ensures { result ≡ below_len bound (flat_map (λ g. g) self.now) }
+    {
+        let mut passed = 0;
+        for head in &self.heads {
+            let count = u64::from(head.count);
+            let below = below_in(words_of(&self.words, *head), count, head.width, bound);
+            passed += below;
+            if below < count {
+                return passed;
+            }
+        }
+        passed
     }
 
     /// Appends the spelling of each group; on want of memory a part of it.

@@ -1,5 +1,5 @@
 // A list under one code.
-ghost use Rattle.std.specs.Prelude.{◌≡◌, ◌+◌, ◌^◌, ◌<◌, ◌≤◌, ◌++◌, length, take, IfOk, OnOk, IsTrue};
+ghost use Rattle.std.specs.Prelude.{◌≡◌, ◌+◌, ◌^◌, ◌<◌, ◌≤◌, ◌++◌, length, take, IfOk, OnOk};
 ghost use Rattle.std.specs.List.{slice_get};
 ghost use Rattle.elias_fano.specs.Values.{below_len};
 ghost use Rattle.elias_fano.specs.Reading.{Gives};
@@ -41,18 +41,6 @@ pub fn encode_part(alloc: Global, values: &[u64], code: Code) -> Result<Part, No
     Ok(part)
 }
 
-/// The code of a list.
-pub fn code_of_part(part: &Part) -> Code
-    ensures { result ≡ code_of part.now }
-{
-    match part {
-        Part::Compact(_) => Code::Compact,
-        Part::Parted(_) => Code::Parted,
-        Part::Dict(_) => Code::Dict,
-        Part::EliasFano(_) => Code::EliasFano,
-    }
-}
-
 /// How many values a list has.
 pub fn part_len(part: &Part) -> u64
     ensures { result ≡ length (values_of part.now) }
@@ -77,26 +65,33 @@ pub fn part_get(part: &Part, i: u64) -> Option<u64>
     }
 }
 
-// Whether all values are below a bound, as far as it is seen without a look at each.
-fn is_within(part: &Part, bound: u64) -> bool
-    ensures { IsTrue result → below_len bound (values_of part.now) ≡ length (values_of part.now) }
-{
-    match part {
-        Part::Compact(list) => list.is_within(bound),
-        Part::Parted(_) => false,
-        Part::Dict(list) => list.is_within(bound),
-        Part::EliasFano(list) => list.is_within(bound),
-    }
-}
-
 /// How many values at the front are below a bound.
 pub fn part_below(part: &Part, bound: u64) -> u64
     ensures { result ≡ below_len bound (values_of part.now) }
 {
-    let len = part_len(part);
-    if is_within(part, bound) {
-        return len;
+    match part {
+        Part::Compact(list) => list.below(bound),
+        Part::Parted(list) => list.below(bound),
+        Part::Dict(list) => {
+            if list.is_within(bound) {
+                return list.len();
+            }
+            below_by_each(part, bound)
+        }
+        Part::EliasFano(list) => {
+            if list.is_within(bound) {
+                return list.len();
+            }
+            below_by_each(part, bound)
+        }
     }
+}
+
+// The same, by a look at each value.
+fn below_by_each(part: &Part, bound: u64) -> u64
+    ensures { result ≡ below_len bound (values_of part.now) }
+{
+    let len = part_len(part);
     for i in 0..len {
         let value = part_get(part, i).unwrap();
         if value >= bound {

@@ -1,6 +1,7 @@
 // Groups of 256 numbers, each group in the width of its greatest.
 ghost use Rattle.std.specs.Prelude.{◌≡◌, ◌+◌, ◌^◌, ◌≤◌, ◌++◌, length, take, IfOk, OnOk};
 ghost use Rattle.std.specs.List.{slice_get, flat_map};
+ghost use Rattle.elias_fano.specs.Values.{below_len};
 ghost use Rattle.elias_fano.specs.Reading.{Gives};
 ghost use Rattle.pilot_codecs.specs.Spelling.{parted_text};
 ghost use Rattle.pilot_codecs.specs.Reading.{parted_at};
@@ -66,6 +67,13 @@ impl Parted {
             return None;
         }
         Some(self.groups.get((i / GROUP) as usize, i % GROUP))
+    }
+
+    /// How many values at the front are below a bound.
+    pub fn below(&self, bound: u64) -> u64
+        ensures { result ≡ below_len bound self.now }
+    {
+        self.groups.below(bound)
     }
 
     /// Appends the spelling; on want of memory a part of it.

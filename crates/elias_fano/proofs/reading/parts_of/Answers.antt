@@ -1,14 +1,15 @@
-use Rattle.std.proofs.Common.{◌≡◌, ℕ, ◌+◌, ◌*◌, ◌/◌, ◌^◌, List, Bool, length, Ok, sym, ap, ◌∙◌, subst, arith}
+use Rattle.std.proofs.Common.{◌≡◌, ℕ, ◌+◌, ◌*◌, ◌/◌, ◌^◌, ◌<◌, ◌≤◌, List, Bool, length, Ok, Err, sym, ap, ◌∙◌, subst, inl, inr, arith}
 use Rattle.bit_vector.specs.Bits.{words_for}
 use Rattle.elias_fano.specs.Spelling.{high_len, low_width}
-use Rattle.elias_fano.specs.Reading.{Fails, run_at, checked}
+use Rattle.elias_fano.specs.Reading.{Fails, fault, run_at, checked, parts_at}
 use Rattle.std.proofs.lemmas.Result.{err_from_is_err_and}
 use Rattle.elias_fano.proofs.FormLemmas.{parts_at-low, parts_at-high, parts_at-check, parts_at-ok}
-use Rattle.elias_fano.proofs.LawLemmas.{run_len}
+use Rattle.elias_fano.proofs.LawLemmas.{ok_is, run_len}
+use Rattle.elias_fano.proofs.ShortLemmas.{not_both, run_short, parts_short, tells}
 use Rattle.elias_fano.proofs.reading.parts_of.Goals as goal
 
-pub returns-in_err-low : goal.returns-in_err-low
-returns-in_err-low c =
+pub returns-in_err-low-clause-values : goal.returns-in_err-low-clause-values
+returns-in_err-low-clause-values c =
     let at = c.args.at in
     let count = c.args.count in
     let last = c.args.last in
@@ -17,10 +18,10 @@ returns-in_err-low c =
     let wide : w ≡ c.from.result = sym (c.from.ensures ∙ c.width_of-width.ensures.width) in
     let p = err_from_is_err_and c.from_residual.result c.from_residual.ensures.1 in
     rw (p.1, p.2) (parts_at-low c.in_err-low.field-0.0 at count last w bytes
-    (subst (λ (x : ℕ). Fails c.in_err-low.field-0.0 (run_at (at + 8) (count * x) bytes)) (sym wide) c.in_err-low.ensures))
+    (subst (λ (x : ℕ). Fails c.in_err-low.field-0.0 (run_at (at + 8) (count * x) bytes)) (sym wide) c.in_err-low.ensures.bits))
 
-pub returns-in_err-high : goal.returns-in_err-high
-returns-in_err-high c =
+pub returns-in_err-high-clause-values : goal.returns-in_err-high-clause-values
+returns-in_err-high-clause-values c =
     let at = c.args.at in
     let count = c.args.count in
     let last = c.args.last in
@@ -28,28 +29,28 @@ returns-in_err-high c =
     let w = low_width count last in
     let wide : w ≡ c.from.result = sym (c.from.ensures ∙ c.width_of-width.ensures.width) in
     let lows : run_at (at + 8) (count * w) bytes ≡ Ok (c.in_ok-low.low, c.in_ok-low.rest.now) = ap (λ (x : ℕ). run_at (at + 8) (count * x) bytes) wide
-    ∙ c.in_ok-low.ensures in
+    ∙ c.in_ok-low.ensures.bits in
     let place : at + 8 + 8 * words_for (count * w) ≡ at + 8 + 8 * c.div_ceil.result = omega (arith, c.div_ceil.ensures, ap (λ (x : ℕ). count * x) wide) in
     let size : high_len count last w ≡ count + last / 2 ^ c.width_of-width.result + 1 =
     ap (λ (x : ℕ). count + last / 2 ^ x + 1) (sym c.width_of-width.ensures.width) in
     let moved = ap (λ (p : ℕ). run_at p (high_len count last w) c.in_ok-low.rest.now) place
     ∙ ap (λ (n : ℕ). run_at (at + 8 + 8 * c.div_ceil.result) n c.in_ok-low.rest.now) size in
     let p = err_from_is_err_and c.from_residual-in_err-high.result c.from_residual-in_err-high.ensures.1 in
-    rw (p.1, p.2) (parts_at-high c.in_err-high.field-0.0 at count last w bytes c.in_ok-low.low c.in_ok-low.rest.now lows (rw moved c.in_err-high.ensures))
+    rw (p.1, p.2) (parts_at-high c.in_err-high.field-0.0 at count last w bytes c.in_ok-low.low c.in_ok-low.rest.now lows (rw moved c.in_err-high.ensures.bits))
 
 pub check-requires-clause-low_len : goal.check-requires-clause-low_len
 check-requires-clause-low_len c =
-    run_len (c.args.at + 8) (c.args.count * c.from.result) c.args.bytes.now c.in_ok-low.low c.in_ok-low.rest.now c.in_ok-low.ensures
+    run_len (c.args.at + 8) (c.args.count * c.from.result) c.args.bytes.now c.in_ok-low.low c.in_ok-low.rest.now c.in_ok-low.ensures.bits
     ∙ ap (λ (x : ℕ). c.args.count * x) c.from.ensures
 
 pub check-requires-clause-high_len_is : goal.check-requires-clause-high_len_is
 check-requires-clause-high_len_is c =
     ap length c.in_ok-high-2.ensures
     ∙ run_len (c.args.at + 8 + 8 * c.div_ceil.result) (c.args.count + c.args.last / 2 ^ c.width_of-width.result + 1) c.in_ok-low.rest.now c.in_ok-high.high
-    c.in_ok-high.rest.now c.in_ok-high.ensures
+    c.in_ok-high.rest.now c.in_ok-high.ensures.bits
 
-pub returns-in_err-list : goal.returns-in_err-list
-returns-in_err-list c =
+pub returns-in_err-list-clause-values : goal.returns-in_err-list-clause-values
+returns-in_err-list-clause-values c =
     let at = c.args.at in
     let count = c.args.count in
     let last = c.args.last in
@@ -57,14 +58,14 @@ returns-in_err-list c =
     let w = low_width count last in
     let wide : w ≡ c.from.result = sym (c.from.ensures ∙ c.width_of-width.ensures.width) in
     let lows : run_at (at + 8) (count * w) bytes ≡ Ok (c.in_ok-low.low, c.in_ok-low.rest.now) = ap (λ (x : ℕ). run_at (at + 8) (count * x) bytes) wide
-    ∙ c.in_ok-low.ensures in
+    ∙ c.in_ok-low.ensures.bits in
     let place : at + 8 + 8 * words_for (count * w) ≡ at + 8 + 8 * c.div_ceil.result = omega (arith, c.div_ceil.ensures, ap (λ (x : ℕ). count * x) wide) in
     let size : high_len count last w ≡ count + last / 2 ^ c.width_of-width.result + 1 =
     ap (λ (x : ℕ). count + last / 2 ^ x + 1) (sym c.width_of-width.ensures.width) in
     let moved = ap (λ (p : ℕ). run_at p (high_len count last w) c.in_ok-low.rest.now) place
     ∙ ap (λ (n : ℕ). run_at (at + 8 + 8 * c.div_ceil.result) n c.in_ok-low.rest.now) size in
     let highs : run_at (at + 8 + 8 * words_for (count * w)) (high_len count last w) c.in_ok-low.rest.now ≡ Ok (c.in_ok-high.high, c.in_ok-high.rest.now) =
-    moved ∙ c.in_ok-high.ensures in
+    moved ∙ c.in_ok-high.ensures.bits in
     let same : checked at (at + 8 + 8 * words_for (count * w)) count last w c.in_ok-low.low c.in_ok-high.high
     ≡ checked at (at + 8 + 8 * c.div_ceil.result) count last c.width_of-width.result c.in_ok-low.low c.in_ok-high-2.high =
     ap (λ (p : ℕ). checked at p count last w c.in_ok-low.low c.in_ok-high.high) place
@@ -74,8 +75,8 @@ returns-in_err-list c =
     rw (p.1, p.2) (parts_at-check c.in_err-list.field-0.0 at count last w bytes c.in_ok-low.low c.in_ok-high.high c.in_ok-low.rest.now c.in_ok-high.rest.now
     lows highs (rw same c.in_err-list.ensures))
 
-pub returns : goal.returns
-returns c =
+pub returns-clause-values : goal.returns-clause-values
+returns-clause-values c =
     let at = c.args.at in
     let count = c.args.count in
     let last = c.args.last in
@@ -83,14 +84,14 @@ returns c =
     let w = low_width count last in
     let wide : w ≡ c.from.result = sym (c.from.ensures ∙ c.width_of-width.ensures.width) in
     let lows : run_at (at + 8) (count * w) bytes ≡ Ok (c.in_ok-low.low, c.in_ok-low.rest.now) = ap (λ (x : ℕ). run_at (at + 8) (count * x) bytes) wide
-    ∙ c.in_ok-low.ensures in
+    ∙ c.in_ok-low.ensures.bits in
     let place : at + 8 + 8 * words_for (count * w) ≡ at + 8 + 8 * c.div_ceil.result = omega (arith, c.div_ceil.ensures, ap (λ (x : ℕ). count * x) wide) in
     let size : high_len count last w ≡ count + last / 2 ^ c.width_of-width.result + 1 =
     ap (λ (x : ℕ). count + last / 2 ^ x + 1) (sym c.width_of-width.ensures.width) in
     let moved = ap (λ (p : ℕ). run_at p (high_len count last w) c.in_ok-low.rest.now) place
     ∙ ap (λ (n : ℕ). run_at (at + 8 + 8 * c.div_ceil.result) n c.in_ok-low.rest.now) size in
     let highs : run_at (at + 8 + 8 * words_for (count * w)) (high_len count last w) c.in_ok-low.rest.now ≡ Ok (c.in_ok-high.high, c.in_ok-high.rest.now) =
-    moved ∙ c.in_ok-high.ensures in
+    moved ∙ c.in_ok-high.ensures.bits in
     let same : checked at (at + 8 + 8 * words_for (count * w)) count last w c.in_ok-low.low c.in_ok-high.high
     ≡ checked at (at + 8 + 8 * c.div_ceil.result) count last c.width_of-width.result c.in_ok-low.low c.in_ok-high-2.high =
     ap (λ (p : ℕ). checked at p count last w c.in_ok-low.low c.in_ok-high.high) place
@@ -98,3 +99,139 @@ returns c =
     ∙ ap (λ (bs : List Bool). checked at (at + 8 + 8 * c.div_ceil.result) count last c.width_of-width.result c.in_ok-low.low bs) (sym c.in_ok-high-2.ensures) in
     parts_at-ok at count last w bytes c.in_ok-low.low c.in_ok-high.high c.in_ok-low.rest.now c.in_ok-high.rest.now c.in_ok-list.list lows highs (same
     ∙ c.in_ok-list.ensures)
+
+-- the low bits are short, or the high bits are where there are no low ones
+low_short : (at count last w width place : ℕ) (bytes : List ℕ) → width ≡ w → 0 < count * width → 8 * words_for (count * width) ≤ length bytes →
+    place ≤ at + 8 → parts_at at count last w bytes ≡ Err (fault place 1) → ⊥
+low_short at count last w width place bytes same some long le short =
+    let wide : count * width ≡ count * w = ap (λ (x : ℕ). count * x) same in
+    elim (parts_short at count last w place bytes short) [
+      | inl low ↦ absurd (omega (arith, (run_short (at + 8) (count * w) place bytes low).1, wide, long))
+      | inr high ↦
+          let p = run_short (at + 8 + 8 * words_for (count * w)) (high_len count last w) place high.0.1 high.2 in
+          absurd (omega (arith, p.0, le, wide, some))
+    ]
+
+-- the low bits are read, and the high bits are long enough
+high_short : (at count last w place : ℕ) (bytes : List ℕ) (low : List Bool × List ℕ) → run_at (at + 8) (count * w) bytes ≡ Ok low →
+    8 * words_for (high_len count last w) ≤ length low.1 → parts_at at count last w bytes ≡ Err (fault place 1) → ⊥
+high_short at count last w place bytes low read long short =
+    elim (parts_short at count last w place bytes short) [
+      | inl first ↦ absurd (not_both (sym read ∙ first))
+      | inr high ↦
+          let same : low ≡ high.0 = ok_is low high.0 (sym read ∙ high.1) in
+          let p = run_short (at + 8 + 8 * words_for (count * w)) (high_len count last w) place high.0.1 high.2 in
+          absurd (omega (arith, p.1, long, ap (λ (x : List Bool × List ℕ). length x.1) same))
+    ]
+
+-- both are read
+none_short : (at count last w place : ℕ) (bytes : List ℕ) (low high : List Bool × List ℕ) → run_at (at + 8) (count * w) bytes ≡ Ok low →
+    run_at (at + 8 + 8 * words_for (count * w)) (high_len count last w) low.1 ≡ Ok high → parts_at at count last w bytes ≡ Err (fault place 1) → ⊥
+none_short at count last w place bytes low high read read2 short =
+    elim (parts_short at count last w place bytes short) [
+      | inl first ↦ absurd (not_both (sym read ∙ first))
+      | inr second ↦
+          let same : low ≡ second.0 = ok_is low second.0 (sym read ∙ second.1) in
+          let at_high = ap (λ (x : List Bool × List ℕ). run_at (at + 8 + 8 * words_for (count * w)) (high_len count last w) x.1) same in
+          absurd (not_both (sym read2 ∙ at_high ∙ second.2))
+    ]
+
+pub returns-in_err-low-clause-short : goal.returns-in_err-low-clause-short
+returns-in_err-low-clause-short c =
+    let at = c.args.at in
+    let count = c.args.count in
+    let last = c.args.last in
+    let bytes = c.args.bytes.now in
+    let w = low_width count last in
+    let wide : c.from.result ≡ w = c.from.ensures ∙ c.width_of-width.ensures.width in
+    let e = c.in_err-low.field-0.0 in
+    let p = err_from_is_err_and c.from_residual.result c.from_residual.ensures.1 in
+    tells at e _ _ (p.1 ∙ ap Err p.2)
+    (parts_at-low e at count last w bytes (subst (λ (x : ℕ). Fails e (run_at (at + 8) (count * x) bytes)) wide c.in_err-low.ensures.bits))
+    (λ lacks place le short. low_short at count last w c.from.result place bytes wide (c.in_err-low.ensures.some (ap Err lacks))
+    (c.in_err-low.ensures.memory (ap Err lacks)) le short)
+
+pub returns-in_err-high-clause-short : goal.returns-in_err-high-clause-short
+returns-in_err-high-clause-short c =
+    let at = c.args.at in
+    let count = c.args.count in
+    let last = c.args.last in
+    let bytes = c.args.bytes.now in
+    let w = low_width count last in
+    let wide : w ≡ c.from.result = sym (c.from.ensures ∙ c.width_of-width.ensures.width) in
+    let lows : run_at (at + 8) (count * w) bytes ≡ Ok (c.in_ok-low.low, c.in_ok-low.rest.now) = ap (λ (x : ℕ). run_at (at + 8) (count * x) bytes) wide
+    ∙ c.in_ok-low.ensures.bits in
+    let place : at + 8 + 8 * words_for (count * w) ≡ at + 8 + 8 * c.div_ceil.result = omega (arith, c.div_ceil.ensures, ap (λ (x : ℕ). count * x) wide) in
+    let size : high_len count last w ≡ count + last / 2 ^ c.width_of-width.result + 1 =
+    ap (λ (x : ℕ). count + last / 2 ^ x + 1) (sym c.width_of-width.ensures.width) in
+    let moved = ap (λ (p : ℕ). run_at p (high_len count last w) c.in_ok-low.rest.now) place
+    ∙ ap (λ (n : ℕ). run_at (at + 8 + 8 * c.div_ceil.result) n c.in_ok-low.rest.now) size in
+    let e = c.in_err-high.field-0.0 in
+    let p = err_from_is_err_and c.from_residual-in_err-high.result c.from_residual-in_err-high.ensures.1 in
+    tells at e _ _ (p.1 ∙ ap Err p.2)
+    (parts_at-high e at count last w bytes c.in_ok-low.low c.in_ok-low.rest.now lows (rw moved c.in_err-high.ensures.bits))
+    (λ lacks there le short. high_short at count last w there bytes (c.in_ok-low.low, c.in_ok-low.rest.now) lows (omega (
+      arith,
+      size,
+      c.in_err-high.ensures.memory (ap Err lacks),
+    )) short)
+
+pub returns-in_err-high-2-clause-short : goal.returns-in_err-high-2-clause-short
+returns-in_err-high-2-clause-short c =
+    let at = c.args.at in
+    let count = c.args.count in
+    let last = c.args.last in
+    let bytes = c.args.bytes.now in
+    let w = low_width count last in
+    let wide : w ≡ c.from.result = sym (c.from.ensures ∙ c.width_of-width.ensures.width) in
+    let lows : run_at (at + 8) (count * w) bytes ≡ Ok (c.in_ok-low.low, c.in_ok-low.rest.now) = ap (λ (x : ℕ). run_at (at + 8) (count * x) bytes) wide
+    ∙ c.in_ok-low.ensures.bits in
+    let place : at + 8 + 8 * words_for (count * w) ≡ at + 8 + 8 * c.div_ceil.result = omega (arith, c.div_ceil.ensures, ap (λ (x : ℕ). count * x) wide) in
+    let size : high_len count last w ≡ count + last / 2 ^ c.width_of-width.result + 1 =
+    ap (λ (x : ℕ). count + last / 2 ^ x + 1) (sym c.width_of-width.ensures.width) in
+    let moved = ap (λ (p : ℕ). run_at p (high_len count last w) c.in_ok-low.rest.now) place
+    ∙ ap (λ (n : ℕ). run_at (at + 8 + 8 * c.div_ceil.result) n c.in_ok-low.rest.now) size in
+    let highs : run_at (at + 8 + 8 * words_for (count * w)) (high_len count last w) c.in_ok-low.rest.now ≡ Ok (c.in_ok-high.high, c.in_ok-high.rest.now) =
+    moved ∙ c.in_ok-high.ensures.bits in
+    λ there le short. absurd (none_short at count last w there bytes (c.in_ok-low.low, c.in_ok-low.rest.now) (c.in_ok-high.high, c.in_ok-high.rest.now) lows highs
+    short)
+
+pub returns-in_err-list-clause-short : goal.returns-in_err-list-clause-short
+returns-in_err-list-clause-short c =
+    let at = c.args.at in
+    let count = c.args.count in
+    let last = c.args.last in
+    let bytes = c.args.bytes.now in
+    let w = low_width count last in
+    let wide : w ≡ c.from.result = sym (c.from.ensures ∙ c.width_of-width.ensures.width) in
+    let lows : run_at (at + 8) (count * w) bytes ≡ Ok (c.in_ok-low.low, c.in_ok-low.rest.now) = ap (λ (x : ℕ). run_at (at + 8) (count * x) bytes) wide
+    ∙ c.in_ok-low.ensures.bits in
+    let place : at + 8 + 8 * words_for (count * w) ≡ at + 8 + 8 * c.div_ceil.result = omega (arith, c.div_ceil.ensures, ap (λ (x : ℕ). count * x) wide) in
+    let size : high_len count last w ≡ count + last / 2 ^ c.width_of-width.result + 1 =
+    ap (λ (x : ℕ). count + last / 2 ^ x + 1) (sym c.width_of-width.ensures.width) in
+    let moved = ap (λ (p : ℕ). run_at p (high_len count last w) c.in_ok-low.rest.now) place
+    ∙ ap (λ (n : ℕ). run_at (at + 8 + 8 * c.div_ceil.result) n c.in_ok-low.rest.now) size in
+    let highs : run_at (at + 8 + 8 * words_for (count * w)) (high_len count last w) c.in_ok-low.rest.now ≡ Ok (c.in_ok-high.high, c.in_ok-high.rest.now) =
+    moved ∙ c.in_ok-high.ensures.bits in
+    λ there le short. absurd (none_short at count last w there bytes (c.in_ok-low.low, c.in_ok-low.rest.now) (c.in_ok-high.high, c.in_ok-high.rest.now) lows highs
+    short)
+
+pub returns-clause-short : goal.returns-clause-short
+returns-clause-short c =
+    let at = c.args.at in
+    let count = c.args.count in
+    let last = c.args.last in
+    let bytes = c.args.bytes.now in
+    let w = low_width count last in
+    let wide : w ≡ c.from.result = sym (c.from.ensures ∙ c.width_of-width.ensures.width) in
+    let lows : run_at (at + 8) (count * w) bytes ≡ Ok (c.in_ok-low.low, c.in_ok-low.rest.now) = ap (λ (x : ℕ). run_at (at + 8) (count * x) bytes) wide
+    ∙ c.in_ok-low.ensures.bits in
+    let place : at + 8 + 8 * words_for (count * w) ≡ at + 8 + 8 * c.div_ceil.result = omega (arith, c.div_ceil.ensures, ap (λ (x : ℕ). count * x) wide) in
+    let size : high_len count last w ≡ count + last / 2 ^ c.width_of-width.result + 1 =
+    ap (λ (x : ℕ). count + last / 2 ^ x + 1) (sym c.width_of-width.ensures.width) in
+    let moved = ap (λ (p : ℕ). run_at p (high_len count last w) c.in_ok-low.rest.now) place
+    ∙ ap (λ (n : ℕ). run_at (at + 8 + 8 * c.div_ceil.result) n c.in_ok-low.rest.now) size in
+    let highs : run_at (at + 8 + 8 * words_for (count * w)) (high_len count last w) c.in_ok-low.rest.now ≡ Ok (c.in_ok-high.high, c.in_ok-high.rest.now) =
+    moved ∙ c.in_ok-high.ensures.bits in
+    λ there le short. absurd (none_short at count last w there bytes (c.in_ok-low.low, c.in_ok-low.rest.now) (c.in_ok-high.high, c.in_ok-high.rest.now) lows highs
+    short)

@@ -4,8 +4,8 @@ use Rattle.std.proofs.lemmas.Bool.{false≢true}
 use Rattle.elias_fano.proofs.FormLemmas.{run_at-short, run_at-padding, run_at-ok, some_words}
 use Rattle.elias_fano.proofs.reading.run_of.Goals as goal
 
-pub returns-then-bytes-count : goal.returns-then-bytes-count
-returns-then-bytes-count c = rw c.form_fault.ensures
+pub returns-then-bytes-count-clause-bits : goal.returns-then-bytes-count-clause-bits
+returns-then-bytes-count-clause-bits c = rw c.form_fault.ensures
     (run_at-short c.args.at c.args.len c.div_ceil-count.result c.args.bytes.now (omega (arith, c.div_ceil-count.ensures)) c.if-bytes-count.true)
 
 pub overflow_sub-at : goal.overflow_sub-at
@@ -16,14 +16,14 @@ overflow_sub-at c = omega (
       ∙ ap (λ (ws : List ℕ). ws ++ words_in c.div_ceil-count.result c.args.bytes.now) c.new-words.ensures.items) (λ p. false≢true (c.in-None.ensures.some.1 p)),
 )
 
-pub returns-in-None : goal.returns-in-None
-returns-in-None c =
+pub returns-in-None-clause-bits : goal.returns-in-None-clause-bits
+returns-in-None-clause-bits c =
     rw c.form_fault-in-None.ensures (run_at-padding c.args.at c.args.len c.div_ceil-count.result c.args.bytes.now c.append_words.new.words.items
     (omega (arith, c.div_ceil-count.ensures)) c.if-bytes-count.false (λ i. omega (arith, c.type_inv.bytes i)) (c.in_ok-append_words.ensures.ok
     ∙ ap (λ (ws : List ℕ). ws ++ words_in c.div_ceil-count.result c.args.bytes.now) c.new-words.ensures.items) (λ p. false≢true (c.in-None.ensures.some.1 p)))
 
-pub returns-in-Some : goal.returns-in-Some
-returns-in-Some c =
+pub returns-in-Some-clause-bits : goal.returns-in-Some-clause-bits
+returns-in-Some-clause-bits c =
     run_at-ok c.args.at c.args.len c.div_ceil-count.result c.args.bytes.now c.append_words.new.words.items c.in-Some.bits
     (omega (arith, c.div_ceil-count.ensures)) c.if-bytes-count.false (c.in_ok-append_words.ensures.ok
     ∙ ap (λ (ws : List ℕ). ws ++ words_in c.div_ceil-count.result c.args.bytes.now) c.new-words.ensures.items)

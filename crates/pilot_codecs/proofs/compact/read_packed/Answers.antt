@@ -16,8 +16,8 @@ returns-then-bytes-size-clause-values c =
       ap (λ (x : ℕ). c.args.count * x) c.from.ensures,
     )) c.if-bytes-size.true
 
-pub greatest_in-requires-clause-room : goal.greatest_in-requires-clause-room
-greatest_in-requires-clause-room c =
+pub is_width_of-requires-clause-room : goal.is_width_of-requires-clause-room
+is_width_of-requires-clause-room c =
     let r = words_read c.args.count c.args.width c.from.result c.div_ceil-size.result c.len-start.result c.args.bytes.now c.args.words.now.items
     c.append_words.new.words.items c.deref.result.now c.from.ensures (omega (arith, c.div_ceil-size.ensures)) (omega (
       arith,
@@ -26,8 +26,8 @@ greatest_in-requires-clause-room c =
     )) c.deref.ensures.value c.in_ok-append_words.ensures.ok in
     omega (arith, r.size_is, ap length r.read_is, length-words_in c.div_ceil-size.result c.args.bytes.now)
 
-pub returns-then-digits-width-clause-values : goal.returns-then-digits-width-clause-values
-returns-then-digits-width-clause-values c =
+pub returns-then-not-is_width_of-clause-values : goal.returns-then-not-is_width_of-clause-values
+returns-then-not-is_width_of-clause-values c =
     let r = words_read c.args.count c.args.width c.from.result c.div_ceil-size.result c.len-start.result c.args.bytes.now c.args.words.now.items
     c.append_words.new.words.items c.deref.result.now c.from.ensures (omega (arith, c.div_ceil-size.ensures)) (omega (
       arith,
@@ -35,10 +35,8 @@ returns-then-digits-width-clause-values c =
       c.args.words.now.ok.0,
     )) c.deref.ensures.value c.in_ok-append_words.ensures.ok in
     let read = take (length c.deref.result.now - c.len-start.result) (drop c.len-start.result c.deref.result.now) in
-    let d : c.digits.result ≡ digits_of (greatest (values_in c.args.count c.args.width read)) = c.digits.ensures.value
-    ∙ ap (λ (x : ℕ). digits_of x) c.greatest_in.ensures in
     packed_at-width c.args.at c.args.count c.args.width c.div_ceil-size.result c.args.bytes.now read r.size_is c.if-bytes-size.false r.read_is
-    (λ e. c.if-digits-width.true (d ∙ e))
+    (λ e. false≢true (c.if-not-is_width_of.ensures.1 e))
 
 pub returns-then-not-is_packed-clause-values : goal.returns-then-not-is_packed-clause-values
 returns-then-not-is_packed-clause-values c =
@@ -50,10 +48,8 @@ returns-then-not-is_packed-clause-values c =
     )) c.deref.ensures.value c.in_ok-append_words.ensures.ok in
     let read = take (length c.deref.result.now - c.len-start.result) (drop c.len-start.result c.deref.result.now) in
     let wide : c.args.count * c.args.width ≡ c.args.count * c.from.result = ap (λ (x : ℕ). c.args.count * x) (sym c.from.ensures) in
-    let d : c.digits.result ≡ digits_of (greatest (values_in c.args.count c.args.width read)) = c.digits.ensures.value
-    ∙ ap (λ (x : ℕ). digits_of x) c.greatest_in.ensures in
     packed_at-padding c.args.at c.args.count c.args.width c.div_ceil-size.result c.args.bytes.now read r.size_is c.if-bytes-size.false r.read_is
-    (λ i. omega (arith, c.type_inv.bytes i)) (sym d ∙ c.if-digits-width.false)
+    (λ i. omega (arith, c.type_inv.bytes i)) (c.if-not-is_width_of.ensures.0 refl)
     (λ p. false≢true (c.if-not-is_packed.ensures.1 (subst (λ (k : ℕ). IsPacked read k) wide p)))
 
 pub returns-clause-values : goal.returns-clause-values
@@ -70,9 +66,8 @@ returns-clause-values c =
     let read = take (length c.deref.result.now - c.len-start.result) (drop c.len-start.result c.deref.result.now) in
     let same : read ≡ ws = r.read_is ∙ sym r.new_is in
     let wide : count * c.from.result ≡ count * w = ap (λ (x : ℕ). count * x) c.from.ensures in
-    let d : c.digits.result ≡ digits_of (greatest (values_in count w read)) = c.digits.ensures.value ∙ ap (λ (x : ℕ). digits_of x) c.greatest_in.ensures in
     packed_at-ok c.args.at count w c.div_ceil-size.result c.args.bytes.now ws (bits_of (count * w) (words_number ws)) r.size_is c.if-bytes-size.false r.new_is
-    (ap (λ (xs : List ℕ). digits_of (greatest (values_in count w xs))) (sym same) ∙ sym d ∙ c.if-digits-width.false)
+    (ap (λ (xs : List ℕ). digits_of (greatest (values_in count w xs))) (sym same) ∙ c.if-not-is_width_of.ensures.0 refl)
     (subst (λ (xs : List ℕ). IsPacked xs (count * w)) same (subst (λ (k : ℕ). IsPacked read k) wide (c.if-not-is_packed.ensures.0 refl))) refl
 
 pub returns-clause-compact : goal.returns-clause-compact
@@ -87,10 +82,9 @@ returns-clause-compact c =
     )) c.deref.ensures.value c.in_ok-append_words.ensures.ok in
     let read = take (length c.deref.result.now - c.len-start.result) (drop c.len-start.result c.deref.result.now) in
     let wide : count * c.from.result ≡ count * w = ap (λ (x : ℕ). count * x) c.from.ensures in
-    let d : c.digits.result ≡ digits_of (greatest (values_in count w read)) = c.digits.ensures.value ∙ ap (λ (x : ℕ). digits_of x) c.greatest_in.ensures in
     let made : IsCompact count w read = record {
       few = c.requires.few;
-      wide = sym c.if-digits-width.false ∙ d;
+      wide = sym (c.if-not-is_width_of.ensures.0 refl);
       packed_are = subst (λ (k : ℕ). IsPacked read k) wide (c.if-not-is_packed.ensures.0 refl);
     } in
     subst (λ (xs : List ℕ). IsCompact count w xs) (r.read_is ∙ sym r.new_is) made

@@ -5,8 +5,8 @@ use Rattle.std.proofs.lemmas.List.{length-map}
 use Rattle.pilot_codecs.proofs.DictLaws.{IsDictOf}
 use Rattle.pilot_codecs.proofs.dict.Dict.encode.Goals as goal
 
-pub indexes_of-requires : goal.indexes_of-requires
-indexes_of-requires c = c.deref.ensures.value ∙ c.in_ok-entries.ensures
+pub indexes_of-requires-clause-distinct : goal.indexes_of-requires-clause-distinct
+indexes_of-requires-clause-distinct c = c.deref.ensures.value ∙ c.in_ok-entries.ensures
 
 pub encode-requires : goal.encode-requires
 encode-requires c = omega (

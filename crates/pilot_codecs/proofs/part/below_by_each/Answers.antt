@@ -5,14 +5,11 @@ use Rattle.elias_fano.proofs.CallerLemmas.{slice_get-some, slice_get-is, below_l
 use Rattle.pilot_codecs.specs.Values.{values_of}
 use Rattle.pilot_codecs.proofs.DictLemmas.{some_is}
 use Rattle.pilot_codecs.proofs.BelowLemmas.{below_more}
-use Rattle.pilot_codecs.proofs.part.part_below.Goals as goal
+use Rattle.pilot_codecs.proofs.part.below_by_each.Goals as goal
 
 -- a value that was found
 found : (vs : List ℕ) (i v : ℕ) → i < length vs → slice_get vs i ≡ Some v → get_or vs i 0 ≡ v
 found vs i v lt e = some_is (get_or vs i 0) v (sym (slice_get-is vs i 0 lt) ∙ e)
-
-pub returns-then-is_within : goal.returns-then-is_within
-returns-then-is_within c = c.part_len-len.ensures ∙ sym (c.is_within.ensures c.if-is_within.true)
 
 pub unwrap-value-requires : goal.unwrap-value-requires
 unwrap-value-requires c =
