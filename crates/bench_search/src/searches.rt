@@ -6,7 +6,8 @@ ghost use Rattle.pthash.specs.declared.TheConstants.{MAX_POSITIONS};
 use crate::input::{members, records, records_of_one_bucket, records_with_a_repeat};
 use crate::parts::{Timed, invalid_input, out_of_memory};
 use bucket_map::{
-    MAX_KEYS, MAX_PILOTS, Map, NoMemory, Record, Shape, bucket_count, ordered_buckets, partitioned, table_size,
+    MAX_KEYS, MAX_PILOTS, Map, NoMemory, Record, Shape, bucket_count, ordered_buckets, partitioned,
+    table_size,
 };
 use pilot_search::{Occupancy, Placed, Plan, Scratch, Stuck, place, place_one, place_rounds};
 use std::alloc::Global;
