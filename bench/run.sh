@@ -1,5 +1,5 @@
 #!/usr/bin/env bash
-# Times the hash, the buckets and the search beside the same code in `rustc -O`, in turn, and prints a table. Each figure is
+# Times the hash and the buckets beside the same code in `rustc -O`, in turn, and prints a table. Each figure is
 # the least of three runs, or of as many as the first word says. The checksums of both must agree.
 set -eu
 cd "$(dirname "$0")/.."
@@ -20,5 +20,3 @@ row "murmur64, 64,000,000 bytes" murmur64 64000000 "GB/s" 0.064
 row "hash_pair, 4,000,000 keys of 16 bytes" hash_pair 64000000 "million keys/s" 4
 row "ordered_buckets, 1,000,000 pairs" ordered_buckets 1000000 "million pairs/s" 1
 row "ordered_buckets, 4,000,000 pairs" ordered_buckets 4000000 "million pairs/s" 4
-row "place, 1,000,000 pairs" place 1000000 "million pairs/s" 1
-row "place, 4,000,000 pairs" place 4000000 "million pairs/s" 4

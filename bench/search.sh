@@ -39,8 +39,8 @@ row "5,000,000 records" place 5000000 ms 1000000
 row "20,000,000 records" place 20000000 ms 1000000
 row "1,000,000 records in 64 partitions" partitions 1000000 ms 1000000
 row "5,000,000 records in 64 partitions" partitions 5000000 ms 1000000
-row "100 records" often 100 µs 1000000
-row "1,000 records" often 1000 µs 1000000
+row "100 records, of 1,000 lists" lists 100 µs 1000000
+row "1,000 records, of 1,000 lists" lists 1000 µs 1000000
 echo
 head_of_table "large buckets"
 row "a pilot of 2,000 members, none of which fits" large 2000 µs 100000000
@@ -50,4 +50,4 @@ echo "| search of 1,000,000 records | with it | without it | time, as a ratio |"
 echo "|---|---|---|---|"
 pair "two equal records" repeat place 1000000
 pair "rounds of 4 workers, $(nproc) processors" rounds place 1000000
-pair "the same with c=200 alpha=99" rounds_tight place_tight 1000000
+pair "the same with c=200 alpha=99, 100,000 records" rounds_tight place_tight 100000

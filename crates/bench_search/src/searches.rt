@@ -6,7 +6,8 @@ ghost use Rattle.pthash.specs.declared.TheConstants.{MAX_POSITIONS};
 use crate::input::{members, records, records_of_one_bucket, records_with_a_repeat};
 use crate::parts::{Timed, invalid_input, out_of_memory};
 use bucket_map::{
-    MAX_KEYS, MAX_PILOTS, Map, NoMemory, Record, Shape, bucket_count, ordered_buckets, partitioned, table_size,
+    MAX_KEYS, MAX_PILOTS, Map, NoMemory, Record, Shape, bucket_count, ordered_buckets, partitioned,
+    table_size,
 };
 use pilot_search::{Occupancy, Placed, Plan, Scratch, Stuck, place, place_one, place_rounds};
 use std::alloc::Global;
@@ -24,8 +25,8 @@ const WORKERS: u32 = 4;
 
 const PARTITIONS: u32 = 64;
 
-// So often a small list is placed.
-const TIMES: u64 = 1000;
+// So many small lists are searched one after another.
+const LISTS: u32 = 1000;
 
 // The table in which one large bucket is tried, and how many pilots are.
 const LARGE_SIZE: u64 = 102_041;
@@ -53,7 +54,7 @@ pub fn time_search<R: Clock + Threads + Sync>(
             let records = records_with_a_repeat(alloc, count)?;
             time_place(rt, alloc, &records, usual(), PILOTS)
         }
-        "often" => time_often(rt, alloc, &records(alloc, count)?),
+        "lists" => time_lists(rt, alloc, &records(alloc, count.saturating_mul(LISTS))?),
         "large" => time_large(rt, alloc, &members(alloc, count)?),
         "among" => {
             let records = records_of_one_bucket(alloc, count, AMONG)?;
@@ -156,14 +157,11 @@ fn time_rounds<R: Clock + Threads + Sync>(
 
 // One partition after another.
 fn time_partitions(clock: &impl Clock, alloc: Global, records: &[Record]) -> io::Result<Timed> {
-    let plans = plans_of(alloc, records)?;
-    let start = Instant::now(clock)?;
-    let checksum = place_all(alloc, &plans)?;
-    let nanos = start.elapsed(clock)?.as_nanos();
-    Ok(Timed { nanos, checksum })
+    let plans = plans_of_partitions(alloc, records)?;
+    time_plans(clock, alloc, &plans)
 }
 
-fn plans_of(alloc: Global, records: &[Record]) -> io::Result<Vec<Plan>> {
+fn plans_of_partitions(alloc: Global, records: &[Record]) -> io::Result<Vec<Plan>> {
     let cut = match partitioned(alloc, records, PARTITIONS) {
         Ok(cut) => cut,
         Err(_) => return Err(out_of_memory()),
@@ -175,6 +173,26 @@ fn plans_of(alloc: Global, records: &[Record]) -> io::Result<Vec<Plan>> {
     Ok(plans)
 }
 
+// One small list after another, each of other records, so that no branch is known from the list before.
+fn time_lists(clock: &impl Clock, alloc: Global, records: &[Record]) -> io::Result<Timed> {
+    let len = records.len() / LISTS as usize;
+    if len == 0 {
+        return Err(invalid_input());
+    }
+    let mut plans = Vec::new(alloc);
+    for list in records.chunks(len) {
+        plans.push(plan_of(alloc, list, usual(), PILOTS)?)?;
+    }
+    time_plans(clock, alloc, &plans)
+}
+
+fn time_plans(clock: &impl Clock, alloc: Global, plans: &[Plan]) -> io::Result<Timed> {
+    let start = Instant::now(clock)?;
+    let checksum = place_all(alloc, plans)?;
+    let nanos = start.elapsed(clock)?.as_nanos();
+    Ok(Timed { nanos, checksum })
+}
+
 fn place_all(alloc: Global, plans: &[Plan]) -> io::Result<u64> {
     let mut sum = 0;
     for plan in plans {
@@ -184,21 +202,6 @@ fn place_all(alloc: Global, plans: &[Plan]) -> io::Result<u64> {
         }
     }
     Ok(sum)
-}
-
-// The same small list again and again.
-fn time_often(clock: &impl Clock, alloc: Global, records: &[Record]) -> io::Result<Timed> {
-    let plan = plan_of(alloc, records, usual(), PILOTS)?;
-    let start = Instant::now(clock)?;
-    let mut checksum = 0u64;
-    for _ in 0..TIMES {
-        match place(alloc, &plan) {
-            Ok(answer) => checksum = checksum.wrapping_add(sum_of(&answer)),
-            Err(_) => return Err(out_of_memory()),
-        }
-    }
-    let nanos = start.elapsed(clock)?.as_nanos();
-    Ok(Timed { nanos, checksum })
 }
 
 // One bucket of these members in an empty table, whose pilots all fail where it is large.

@@ -10,7 +10,7 @@ ghost use Rattle.pilot_search.specs.Marking.{AreMarks};
 use crate::fit::is_fit;
 use crate::groups::{GROUP, find_in_group};
 use crate::occupancy::Occupancy;
-use crate::repeats::{FEW, are_distinct};
+use crate::repeats::{FEW, are_members_distinct, may_fit};
 use divisor::Divisor;
 use murmur64::pilot_hash;
 
@@ -40,7 +40,7 @@ pub(crate) fn find_pilot(
     ensures marks { AreMarks marks.new [] }
 {
     if members.len() > FEW {
-        if !are_distinct(members, marks) {
+        if !are_members_distinct(members, positions) {
             return None;
         }
     }
@@ -195,7 +195,7 @@ fn find_beyond(
         IfSome result (λ k. take (length members.now) positions.new ≡ places k) }
     ensures marks { AreMarks marks.new [] }
 {
-    if !are_distinct(members, marks) {
+    if !may_fit(members) {
         return None;
     }
     let kept = limit.min(hashes.len() as u64);

@@ -1,6 +1,8 @@
 // Whether numbers are all different.
 
 ghost use Rattle.std.specs.Prelude.{◌≡◌, ◌<◌, ◌≤◌, ◌*◌, ◌^◌, ◌++◌, [], ◌∷◌, true, false, length, take, not, IsTrue, IsFalse};
+ghost use Rattle.std.specs.List.Sorted.{IsSorted};
+ghost use Rattle.std.specs.Ordering.{nat_cmp};
 ghost use Rattle.pthash.specs.Search.{is_among, is_distinct};
 ghost use Rattle.pilot_search.specs.Marking.{AreMarks, mark_of};
 
@@ -32,6 +34,51 @@ pub(crate) fn are_apart(numbers: &[u64]) -> bool
         }
     }
     true
+}
+
+// Whether no member comes twice: many are sorted in room that is lent.
+pub(crate) fn are_members_distinct(members: &[u64], room: &mut [u64]) -> bool
+    requires { length members.now ≤ length room.old }
+    ensures { result ≡ is_distinct members.now }
+{
+    if members.len() > FEW {
+        are_sorted_apart(members, &mut room[..members.len()])
+    } else {
+        are_apart(members)
+    }
+}
+
+fn are_sorted_apart(members: &[u64], sorted: &mut [u64]) -> bool
+    requires { length sorted.old ≡ length members.now }
+    ensures { result ≡ is_distinct members.now }
+{
+    sorted.copy_from_slice(members);
+    sorted.sort_unstable();
+    are_rising(sorted)
+}
+
+// Whether numbers that are sorted are all different.
+fn are_rising(numbers: &[u64]) -> bool
+    requires { IsSorted nat_cmp numbers.now }
+    ensures { result ≡ is_distinct numbers.now }
+{
+    for i in 1..numbers.len() {
+        if numbers[i - 1] >= numbers[i] {
+            return false;
+        }
+    }
+    true
+}
+
+// Whether few members are all different; many are taken to be.
+pub(crate) fn may_fit(members: &[u64]) -> bool
+    ensures { IsFalse result → is_distinct members.now ≡ false }
+{
+    if members.len() > FEW {
+        true
+    } else {
+        are_apart(members)
+    }
 }
 
 fn are_marked_apart(numbers: &[u64], marks: &mut [u64]) -> bool

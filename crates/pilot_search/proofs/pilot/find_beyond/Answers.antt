@@ -4,9 +4,9 @@ use Rattle.std.proofs.lemmas.Bool.{cases_lt}
 use Rattle.pthash.specs.SearchLaws.{pilot_fits-repeated}
 use Rattle.pilot_search.proofs.pilot.find_beyond.Goals as goal
 
-pub returns-then-not-are_distinct-clause-pilot : goal.returns-then-not-are_distinct-clause-pilot
-returns-then-not-are_distinct-clause-pilot c =
-    let repeated = sym c.are_distinct.ensures.distinct ∙ c.if-not-are_distinct.true in
+pub returns-then-not-may_fit-clause-pilot : goal.returns-then-not-may_fit-clause-pilot
+returns-then-not-may_fit-clause-pilot c =
+    let repeated = c.may_fit.ensures c.if-not-may_fit.true in
     record { fails = λ j below. pilot_fits-repeated c.args.seed c.args.size.now (contains c.args.occupied.now.taken) c.args.members.now j repeated }
 
 pub loop-pilot-init : goal.loop-pilot-init
@@ -18,5 +18,5 @@ loop-pilot-init c = record {
         (λ (higher : c.args.first ≤ j). c.requires.none_kept.fails j (omega arith))
         (cases_lt j c.args.first);
   };
-  marks = c.are_distinct.ensures.marks;
+  marks = c.requires.marks;
 }
