@@ -122,7 +122,8 @@ entries_short at count size place bytes e =
       | inr q ↦ elim (guard_err (ltb (rise_len ds) size) (fault (at + 8 + 8 * rise_len ds) 4) d rest q) [
           | inl p ↦ absurd (other_kind (at + 8 + 8 * rise_len ds) place 4 (λ k. omega (arith, k)) p.1)
           | inr r ↦
-              let from = compact_from (at + 8 + 8 * length ds) count place (drop (8 * size) bytes) (indexed_short at count place ds (drop (8 * size) bytes) r) in
+              let behind = indexed_short at count place ds (drop (8 * size) bytes) r in
+              let from = compact_from (at + 8 + 8 * length ds) count place (drop (8 * size) bytes) behind in
               inr (omega (arith, from, length-words_in size bytes))
         ]
     ]

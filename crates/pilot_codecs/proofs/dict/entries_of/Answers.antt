@@ -59,7 +59,8 @@ returns-then-risen-size-clause-short c =
     let ds = c.append_words.new.words.items in
     let risen : c.rise-risen.result ≡ rise_len ds = c.rise-risen.ensures.value ∙ ap (λ (xs : List ℕ). rise_len xs) c.deref.ensures.value in
     tells_fault c.args.at _ _ _ refl (entries_at-order c.args.at c.args.count c.args.size c.rise-risen.result c.args.bytes.now ds c.if-bytes-size.false
-    (c.in_ok-append_words.ensures.ok ∙ ap (λ (ws : List ℕ). ws ++ words_in c.args.size c.args.bytes.now) c.new-entries.ensures.items) risen c.if-risen-size.true)
+    (c.in_ok-append_words.ensures.ok ∙ ap (λ (ws : List ℕ). ws ++ words_in c.args.size c.args.bytes.now) c.new-entries.ensures.items) risen
+    c.if-risen-size.true)
 
 pub returns-clause-short : goal.returns-clause-short
 returns-clause-short c =

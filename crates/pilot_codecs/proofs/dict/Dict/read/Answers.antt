@@ -12,14 +12,16 @@ returns-in_err-size-clause-values c =
     rw (p.1, p.2) (dict_at-number c.in_err-size.field-0.0 c.args.at c.args.count c.args.bytes.now c.in_err-size.ensures.value)
 
 pub returns-then-size-count-clause-values : goal.returns-then-size-count-clause-values
-returns-then-size-count-clause-values c = dict_at-size c.args.at c.args.count c.in_ok-size.size c.args.bytes.now c.in_ok-size.rest.now c.in_ok-size.ensures.value
+returns-then-size-count-clause-values c =
+    dict_at-size c.args.at c.args.count c.in_ok-size.size c.args.bytes.now c.in_ok-size.rest.now c.in_ok-size.ensures.value
     (elim c.then-size-count.branch [
       | then-size-count-via-then-size-count w ↦ inl w.if-size-count.true
       | then-size-count-via-else-size-count+then-count-ne0 w ↦ inr w.if-count-ne0.true
     ])
 
 pub returns-clause-values : goal.returns-clause-values
-returns-clause-values c = rw (dict_at-entries c.args.at c.args.count c.in_ok-size.size c.args.bytes.now c.in_ok-size.rest.now c.in_ok-size.ensures.value c.if-size-count.false
+returns-clause-values c =
+    rw (dict_at-entries c.args.at c.args.count c.in_ok-size.size c.args.bytes.now c.in_ok-size.rest.now c.in_ok-size.ensures.value c.if-size-count.false
     c.if-count-ne0.either) c.entries_of.ensures.values
 
 pub returns-in_err-size-clause-short : goal.returns-in_err-size-clause-short

@@ -28,4 +28,5 @@ returns-in_err-groups-clause-short c =
 
 pub returns-clause-short : goal.returns-clause-short
 returns-clause-short c =
-    tells_none c.args.at _ _ _ (parted_at-ok c.args.at c.args.count c.args.bytes.now c.in_ok-groups.groups c.in_ok-groups.rest.now c.in_ok-groups.ensures.values)
+    tells_none c.args.at _ _ _
+    (parted_at-ok c.args.at c.args.count c.args.bytes.now c.in_ok-groups.groups c.in_ok-groups.rest.now c.in_ok-groups.ensures.values)
