@@ -11,6 +11,7 @@ pub mod DictForms
 pub mod SortLemmas
 pub mod DictReads
 pub mod SumLemmas
+pub mod ShortLaws
 pub mod CodeLaws
 pub mod BelowLemmas
 pub mod PairLaws

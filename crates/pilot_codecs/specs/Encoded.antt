@@ -39,6 +39,11 @@ pub record ArePilots (front : Part) (back : Option Part) : Type 0 where
   pub split : IsSplit front back
   pub fit : HasText (encoded_of front back)
 
+-- how many values the front part has
+abbrev pub front_len : Option Code → ℕ → ℕ
+front_len None count = count
+front_len (Some back) count = front_count_of count
+
 -- the list of that count under an encoding, and the bytes after it
 abbrev pub pair_at : Encoding → ℕ → ℕ → List ℕ → Result (List ℕ × List ℕ) FormFault
 pair_at enc at count bytes = split_at enc.front enc.back at count bytes

@@ -3,7 +3,7 @@ ghost use Rattle.std.specs.Prelude.{◌≡◌, ◌+◌, ◌^◌, ◌≤◌, ◌+
 ghost use Rattle.std.specs.List.{slice_get, flat_map};
 ghost use Rattle.elias_fano.specs.Spelling.{number};
 ghost use Rattle.elias_fano.specs.Values.{below_len};
-ghost use Rattle.elias_fano.specs.Reading.{Gives};
+ghost use Rattle.elias_fano.specs.Reading.{Gives, IsShort, LacksMemory, TellsShort};
 ghost use Rattle.pilot_codecs.specs.Spelling.{dict_text, compact_text};
 ghost use Rattle.pilot_codecs.specs.Reading.{rise_len, used_at, indexed_at, entries_at, dict_at};
 
@@ -86,7 +86,8 @@ impl Dict {
     pub fn read(alloc: Global, at: u64, count: u64, bytes: &[u8]) -> Result<(Dict, &[u8]), ReadErr>
         requires few { count ≤ 2 ^ 30 }
         requires place { at ≤ 2 ^ 63 + 2 ^ 49 }
-        ensures { Gives (λ x. (x.0, x.1.now)) result (dict_at at count bytes.now) }
+        ensures values { Gives (λ x. (x.0, x.1.now)) result (dict_at at count bytes.now) }
+        ensures short { TellsShort at result (dict_at at count bytes.now) }
     {
         let (size, rest) = read_number(at, bytes)?;
         if size > count || (size == 0 && count != 0) {
@@ -119,7 +120,8 @@ fn entries_of(
     requires few { count ≤ 2 ^ 30 }
     requires fewer { size ≤ count }
     requires place { at ≤ 2 ^ 63 + 2 ^ 49 }
-    ensures { Gives (λ x. (x.0, x.1.now)) result (entries_at at count size bytes.now) }
+    ensures values { Gives (λ x. (x.0, x.1.now)) result (entries_at at count size bytes.now) }
+    ensures short { TellsShort at result (entries_at at count size bytes.now) }
 {
     if (bytes.len() as u64) < 8 * size {
         return Err(ReadErr::Form(FormFault {
@@ -151,7 +153,9 @@ fn indexed_of(
     requires fewer { length entries.items ≤ count }
     requires rising { rise_len entries.items ≡ length entries.items }
     requires place { at ≤ 2 ^ 63 + 2 ^ 49 }
-    ensures { Gives (λ x. (x.0, x.1.now)) result (indexed_at at count entries.items bytes.now) }
+    ensures values { Gives (λ x. (x.0, x.1.now)) result
+        (indexed_at at count entries.items bytes.now) }
+    ensures memory { LacksMemory result → IsShort (indexed_at at count entries.items bytes.now) → ⊥ }
 {
     let size = entries.len() as u64;
     let (places, rest) = Compact::read(alloc, at + 8 + 8 * size, count, bytes)?;

@@ -3,9 +3,9 @@ ghost use Rattle.std.specs.Prelude.{◌≡◌, ◌+◌, ◌*◌, ◌^◌, ◌<�
 ghost use Rattle.std.specs.List.{flat_map};
 ghost use Rattle.bit_vector.specs.Bits.{words_for};
 ghost use Rattle.elias_fano.specs.Values.{below_len};
-ghost use Rattle.elias_fano.specs.Reading.{Gives};
+ghost use Rattle.elias_fano.specs.Reading.{Gives, IsShort, LacksMemory, TellsShort};
 ghost use Rattle.pilot_codecs.specs.Spelling.{compact_text, groups_for};
-ghost use Rattle.pilot_codecs.specs.Reading.{groups_at};
+ghost use Rattle.pilot_codecs.specs.Reading.{compact_at, groups_at};
 ghost use Rattle.pilot_codecs.specs.Parts.{words_under, group_more_at};
 
 use crate::GROUP;
@@ -136,6 +136,7 @@ impl Groups {
         requires place { at ≤ 2 ^ 63 + 2 ^ 50 }
         ensures groups { Gives (λ x. (self.new, x.now)) result
             (group_more_at self.old at count bytes.now) }
+        ensures memory { LacksMemory result → IsShort (compact_at at count bytes.now) → ⊥ }
         ensures err { OnErr result (self.new ≡ self.old) }
     {
         let start = self.words.len();
@@ -158,8 +159,9 @@ pub fn read_groups(
 ) -> Result<(Groups, &[u8]), ReadErr>
     requires few { count ≤ 2 ^ 30 }
     requires place { at + length bytes.now ≤ 2 ^ 63 + 2 ^ 49 }
-    ensures { Gives (λ x. (x.0, x.1.now)) result
+    ensures values { Gives (λ x. (x.0, x.1.now)) result
         (groups_at (groups_for count) at count bytes.now) }
+    ensures short { TellsShort at result (groups_at (groups_for count) at count bytes.now) }
 {
     let mut groups = Groups::new(alloc);
     let mut left = count;

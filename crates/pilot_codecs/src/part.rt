@@ -2,7 +2,7 @@
 ghost use Rattle.std.specs.Prelude.{◌≡◌, ◌+◌, ◌^◌, ◌<◌, ◌≤◌, ◌++◌, length, take, IfOk, OnOk};
 ghost use Rattle.std.specs.List.{slice_get};
 ghost use Rattle.elias_fano.specs.Values.{below_len};
-ghost use Rattle.elias_fano.specs.Reading.{Gives};
+ghost use Rattle.elias_fano.specs.Reading.{Gives, TellsShort};
 ghost use Rattle.pilot_codecs.specs.Spelling.{greatest, code_text};
 ghost use Rattle.pilot_codecs.specs.Reading.{code_at};
 ghost use Rattle.pilot_codecs.specs.Values.{values_of, code_of};
@@ -127,6 +127,7 @@ pub fn read_part(
     requires place { at + length bytes.now ≤ 2 ^ 63 }
     ensures values { Gives (λ x. (values_of x.0, x.1.now)) result (code_at code at count bytes.now) }
     ensures code { IfOk result (λ x. code_of x.0 ≡ code) }
+    ensures short { TellsShort at result (code_at code at count bytes.now) }
 {
     match code {
         Code::Compact => {

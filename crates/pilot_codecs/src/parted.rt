@@ -2,7 +2,7 @@
 ghost use Rattle.std.specs.Prelude.{◌≡◌, ◌+◌, ◌^◌, ◌≤◌, ◌++◌, length, take, IfOk, OnOk};
 ghost use Rattle.std.specs.List.{slice_get, flat_map};
 ghost use Rattle.elias_fano.specs.Values.{below_len};
-ghost use Rattle.elias_fano.specs.Reading.{Gives};
+ghost use Rattle.elias_fano.specs.Reading.{Gives, TellsShort};
 ghost use Rattle.pilot_codecs.specs.Spelling.{parted_text};
 ghost use Rattle.pilot_codecs.specs.Reading.{parted_at};
 
@@ -93,7 +93,8 @@ impl Parted {
     ) -> Result<(Parted, &[u8]), ReadErr>
         requires few { count ≤ 2 ^ 30 }
         requires place { at + length bytes.now ≤ 2 ^ 63 + 2 ^ 49 }
-        ensures { Gives (λ x. (x.0, x.1.now)) result (parted_at at count bytes.now) }
+        ensures values { Gives (λ x. (x.0, x.1.now)) result (parted_at at count bytes.now) }
+        ensures short { TellsShort at result (parted_at at count bytes.now) }
     {
         let (groups, rest) = read_groups(alloc, at, count, bytes)?;
         Ok((Parted { count, groups }, rest))

@@ -3,10 +3,11 @@ ghost use Rattle.std.specs.Prelude.{◌≡◌, ◌+◌, ◌^◌, ◌<◌, ◌≤
 ghost use Rattle.std.specs.List.{slice_get};
 ghost use Rattle.pthash.specs.Sizes.{front_count_of};
 ghost use Rattle.elias_fano.specs.Values.{below_len};
-ghost use Rattle.elias_fano.specs.Reading.{Gives};
+ghost use Rattle.elias_fano.specs.Reading.{Gives, TellsShort};
 ghost use Rattle.pilot_codecs.specs.Spelling.{code_text, pair_text};
+ghost use Rattle.pilot_codecs.specs.Reading.{code_at};
 ghost use Rattle.pilot_codecs.specs.Values.{values_of, code_of};
-ghost use Rattle.pilot_codecs.specs.Encoded.{Encoded, encoded_of, HasText, ArePilots, IsSpelled, pair_at};
+ghost use Rattle.pilot_codecs.specs.Encoded.{Encoded, encoded_of, HasText, ArePilots, IsSpelled, front_len, pair_at};
 
 use crate::code::{Code, Encoding};
 use crate::part::{Part, encode_part, part_below, part_get, part_len, put_part, read_part};
@@ -139,6 +140,9 @@ impl Pilots {
         // Which fault it is: the first one.
         ensures exact { Gives (λ x. (x.0.values, drop x.1 bytes.now)) result
             (pair_at enc at count (drop at bytes.now)) }
+        // Too few bytes for the first words are told before memory is taken.
+        ensures short { TellsShort at result
+            (code_at enc.front at (front_len enc.back count) (drop at bytes.now)) }
     {
         let rest = &bytes[at..];
         let (list, rest) = read_pair(alloc, at as u64, count, rest, enc)?;
@@ -195,6 +199,8 @@ fn read_pair(
     requires place { at + length bytes.now ≤ 2 ^ 63 }
     ensures values { Gives (λ x. (x.0.values, x.1.now)) result (pair_at enc at count bytes.now) }
     ensures enc { IfOk result (λ x. x.0.enc ≡ enc) }
+    ensures short { TellsShort at result
+        (code_at enc.front at (front_len enc.back count) bytes.now) }
 {
     match enc.back {
         None => {

@@ -3,7 +3,7 @@ ghost use Rattle.std.specs.Prelude.{◌≡◌, ◌^◌, ◌<◌, ◌≤◌, ◌+
 ghost use Rattle.std.specs.List.{slice_get};
 ghost use Rattle.elias_fano.specs.Spelling.{ef_text};
 ghost use Rattle.elias_fano.specs.Values.{below_len};
-ghost use Rattle.elias_fano.specs.Reading.{Gives};
+ghost use Rattle.elias_fano.specs.Reading.{Gives, TellsShort};
 ghost use Rattle.pilot_codecs.specs.Spelling.{greatest, sums_from};
 ghost use Rattle.pilot_codecs.specs.Reading.{sums_at};
 
@@ -98,7 +98,8 @@ impl Sums {
     pub fn read(alloc: Global, at: u64, count: u64, bytes: &[u8]) -> Result<(Sums, &[u8]), ReadErr>
         requires few { count ≤ 2 ^ 30 }
         requires place { at ≤ 2 ^ 63 }
-        ensures { Gives (λ x. (x.0, x.1.now)) result (sums_at at count bytes.now) }
+        ensures values { Gives (λ x. (x.0, x.1.now)) result (sums_at at count bytes.now) }
+        ensures short { TellsShort at result (sums_at at count bytes.now) }
     {
         let (list, rest) = read_list(alloc, at, count, bytes)?;
         Ok((Sums { list }, rest))

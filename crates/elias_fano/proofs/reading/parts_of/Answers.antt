@@ -193,8 +193,8 @@ returns-in_err-high-2-clause-short c =
     ∙ ap (λ (n : ℕ). run_at (at + 8 + 8 * c.div_ceil.result) n c.in_ok-low.rest.now) size in
     let highs : run_at (at + 8 + 8 * words_for (count * w)) (high_len count last w) c.in_ok-low.rest.now ≡ Ok (c.in_ok-high.high, c.in_ok-high.rest.now) =
     moved ∙ c.in_ok-high.ensures.bits in
-    λ there le short. absurd (none_short at count last w there bytes (c.in_ok-low.low, c.in_ok-low.rest.now) (c.in_ok-high.high, c.in_ok-high.rest.now) lows highs
-    short)
+    λ there le short. absurd (none_short at count last w there bytes (c.in_ok-low.low, c.in_ok-low.rest.now) (c.in_ok-high.high, c.in_ok-high.rest.now) lows
+    highs short)
 
 pub returns-in_err-list-clause-short : goal.returns-in_err-list-clause-short
 returns-in_err-list-clause-short c =
@@ -213,8 +213,8 @@ returns-in_err-list-clause-short c =
     ∙ ap (λ (n : ℕ). run_at (at + 8 + 8 * c.div_ceil.result) n c.in_ok-low.rest.now) size in
     let highs : run_at (at + 8 + 8 * words_for (count * w)) (high_len count last w) c.in_ok-low.rest.now ≡ Ok (c.in_ok-high.high, c.in_ok-high.rest.now) =
     moved ∙ c.in_ok-high.ensures.bits in
-    λ there le short. absurd (none_short at count last w there bytes (c.in_ok-low.low, c.in_ok-low.rest.now) (c.in_ok-high.high, c.in_ok-high.rest.now) lows highs
-    short)
+    λ there le short. absurd (none_short at count last w there bytes (c.in_ok-low.low, c.in_ok-low.rest.now) (c.in_ok-high.high, c.in_ok-high.rest.now) lows
+    highs short)
 
 pub returns-clause-short : goal.returns-clause-short
 returns-clause-short c =
@@ -233,5 +233,5 @@ returns-clause-short c =
     ∙ ap (λ (n : ℕ). run_at (at + 8 + 8 * c.div_ceil.result) n c.in_ok-low.rest.now) size in
     let highs : run_at (at + 8 + 8 * words_for (count * w)) (high_len count last w) c.in_ok-low.rest.now ≡ Ok (c.in_ok-high.high, c.in_ok-high.rest.now) =
     moved ∙ c.in_ok-high.ensures.bits in
-    λ there le short. absurd (none_short at count last w there bytes (c.in_ok-low.low, c.in_ok-low.rest.now) (c.in_ok-high.high, c.in_ok-high.rest.now) lows highs
-    short)
+    λ there le short. absurd (none_short at count last w there bytes (c.in_ok-low.low, c.in_ok-low.rest.now) (c.in_ok-high.high, c.in_ok-high.rest.now) lows
+    highs short)

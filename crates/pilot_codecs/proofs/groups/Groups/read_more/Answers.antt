@@ -1,9 +1,11 @@
-use Rattle.std.proofs.Common.{ℕ, ◌++◌, List, [], ◌∷◌, length, drop, Ok, sym, ap, ◌∙◌, subst, arith}
+use Rattle.std.proofs.Common.{ℕ, ◌++◌, List, [], ◌∷◌, length, drop, Ok, Err, sym, ap, ◌∙◌, subst, arith}
 use Rattle.std.proofs.lemmas.Result.{err_from_is_err_and}
 use Rattle.pilot_codecs.specs.declared.groups.Head.{Head}
 use Rattle.pilot_codecs.specs.Parts.{values_in, AreGroups}
 use Rattle.pilot_codecs.proofs.GroupLemmas.{group_more_at-ok, group_more_at-fails}
 use Rattle.pilot_codecs.proofs.HeadLemmas.{IsAdded, AreGroups-kept, groups-kept, AreGroups-added, groups-added}
+use Rattle.elias_fano.proofs.CallerLemmas.{not_both}
+use Rattle.pilot_codecs.proofs.ShortLaws.{lacks_is}
 use Rattle.pilot_codecs.proofs.groups.Groups.read_more.Goals as goal
 
 pub invariant_of-self : goal.invariant_of-self
@@ -63,3 +65,11 @@ returns-in_err-push-clause-err c =
     let p = err_from_is_err_and c.from_residual-in_err-push.result c.from_residual-in_err-push.ensures.1 in
     rw (p.1, c.in_err-push.ensures.items)
     (groups-kept c.self.inside.words.items c.read_values.new.words.items c.self.inside.heads.items c.read_values.ensures.kept c.self.invariant ∙ c.self.view_is)
+
+pub returns-in_err-width-clause-memory : goal.returns-in_err-width-clause-memory
+returns-in_err-width-clause-memory c = λ lacks short.
+    let p = err_from_is_err_and c.from_residual.result c.from_residual.ensures.1 in
+    c.in_err-width.ensures.memory (ap Err (lacks_is c.in_err-width.field-0.0 c.from_residual.result (p.1 ∙ ap Err p.2) lacks)) short
+
+pub returns-in_err-push-clause-memory : goal.returns-in_err-push-clause-memory
+returns-in_err-push-clause-memory c = λ lacks short. not_both (sym c.in_ok-width.ensures.values ∙ short.1)

@@ -1,10 +1,11 @@
-use Rattle.std.proofs.Common.{◌≡◌, ℕ, List, drop, Ok, sym, ap, ◌∙◌, arith}
+use Rattle.std.proofs.Common.{◌≡◌, ℕ, List, drop, Ok, Err, refl, sym, ap, ◌∙◌, arith}
 use Rattle.elias_fano.proofs.CallerLemmas.{IsBytes-drop}
-use Rattle.pilot_codecs.specs.Encoded.{pair_at}
+use Rattle.pilot_codecs.specs.Reading.{code_at}
+use Rattle.pilot_codecs.specs.Encoded.{front_len, pair_at}
 use Rattle.pilot_codecs.proofs.CodeLaws.{split_takes, spelled_at, spelled_again, spelled_same, spelled_once}
 use Rattle.std.proofs.lemmas.Result.{err_from_is_err_and}
 use Rattle.std.proofs.lemmas.List.{take_rest}
-use Rattle.elias_fano.proofs.CallerLemmas.{fails_not}
+use Rattle.elias_fano.proofs.CallerLemmas.{fails_not, tells_same}
 use Rattle.pilot_codecs.proofs.pilots.Pilots.read.Goals as goal
 
 pub returns-in_err-list-clause-only : goal.returns-in_err-list-clause-only
@@ -75,3 +76,18 @@ returns-clause-exact c =
     (IsBytes-drop at bytes (λ i. omega (arith, c.type_inv.bytes i))) c.requires.few read in
     let s = spelled_at bytes at c.args.count c.args.enc vs rest c.requires.within t in
     read ∙ ap (λ (u : List ℕ). Ok (vs, u)) s.2
+
+pub returns-in_err-list-clause-short : goal.returns-in_err-list-clause-short
+returns-in_err-list-clause-short c =
+    let bytes = c.args.bytes.now in
+    let at = c.args.at in
+    let enc = c.args.enc in
+    let p = err_from_is_err_and c.from_residual.result c.from_residual.ensures.1 in
+    let behind = ap (λ (t : List ℕ). code_at enc.front at (front_len enc.back c.args.count) t) (take_rest bytes at) in
+    λ place le short. tells_same at c.in_err-list.field-0.0 _ _ _ refl (p.1 ∙ ap Err p.2) c.in_err-list.ensures.short place le (behind ∙ short)
+
+pub returns-clause-short : goal.returns-clause-short
+returns-clause-short c =
+    let enc = c.args.enc in
+    let behind = ap (λ (t : List ℕ). code_at enc.front c.args.at (front_len enc.back c.args.count) t) (take_rest c.args.bytes.now c.args.at) in
+    λ place le short. absurd (let both = c.in_ok-list.ensures.short place le (behind ∙ short) in cc)
