@@ -62,10 +62,11 @@ impl BucketDivisors {
         ensures value { result ≡ skewed_bucket_of a self.now }
         ensures below { result < self.now }
     {
-        if a < FRONT_HASHES && self.front_count > 0 {
+        let front_count = self.front_count;
+        if a < FRONT_HASHES && front_count > 0 {
             self.front.remainder(a)
         } else {
-            self.front_count + self.back.remainder(a)
+            front_count + self.back.remainder(a)
         }
     }
 }

@@ -16,7 +16,7 @@ use Rattle.build_outcome.specs.FreeList.{free_below, taken_from, free_entry, fre
 use Rattle.build_outcome.specs.Values.{position_value}
 
 -- the free positions below one number more
-free_below-suc : (is_taken : ℕ → Bool) (n : ℕ) → free_below is_taken (suc n) ≡ free_below is_taken n ++ cond (not (is_taken n)) (n ∷ []) []
+pub free_below-suc : (is_taken : ℕ → Bool) (n : ℕ) → free_below is_taken (suc n) ≡ free_below is_taken n ++ cond (not (is_taken n)) (n ∷ []) []
 unfolding numbers_below
 free_below-suc is_taken n = filter-append (λ p. not (is_taken p)) (numbers_below n) (n ∷ [])
 
@@ -75,7 +75,7 @@ taken_and_free is_taken n =
     omega (arith, length-filter is_taken (numbers_below n), length-numbers_below n)
 
 -- one position more
-taken_from-suc : (is_taken : ℕ → Bool) (n k : ℕ) → taken_from is_taken n (suc k) ≡ taken_from is_taken n k + one_if (is_taken (n + k))
+pub taken_from-suc : (is_taken : ℕ → Bool) (n k : ℕ) → taken_from is_taken n (suc k) ≡ taken_from is_taken n k + one_if (is_taken (n + k))
 unfolding numbers_below
 taken_from-suc is_taken n k = count_by-push (λ i. is_taken (n + i)) (numbers_below k) k
 

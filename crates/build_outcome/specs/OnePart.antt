@@ -1,13 +1,13 @@
 -- A partition alone: the rules for it, and what holds of the numbers that it gives.
-use Rattle.std.specs.Prelude.{◌≡◌, ℕ, ◌<◌, true, List, [], ◌∷◌, map, All, Ok}
-use Rattle.std.proofs.Common.{refl}
+use Rattle.std.specs.Prelude.{◌≡◌, ℕ, ◌<◌, true, List, [], ◌∷◌, length, map, All, Ok}
+use Rattle.std.proofs.Common.{refl, subst, arith}
 use Rattle.pthash.specs.declared.Map.{Map}
 use Rattle.pthash.specs.declared.Record.{Record}
 use Rattle.pthash.specs.Search.{is_distinct}
-use Rattle.pthash.specs.Shapes.{ShapeData}
+use Rattle.pthash.specs.Shapes.{ShapeData, IsShape}
 use Rattle.build_outcome.specs.Attempt.{Rules, part_of}
 use Rattle.build_outcome.specs.Index.{PartData}
-use Rattle.build_outcome.specs.PartLaws.{pair_number}
+use Rattle.build_outcome.specs.PartLaws.{HasFinished, part_of-some, pair_number, pair_numbers_differ, pair_number-below}
 
 -- the rules for one partition of this shape, with so many pilots to try
 abbrev pub one_part : ShapeData → ℕ → Rules
@@ -24,3 +24,15 @@ part_of-one_part rules seed (r ∷ records) = refl
 pub record HaveOwnNumbers (spread : Map) (seed : ℕ) (part : PartData) (records : List Record) : Type 0 where
   pub distinct : is_distinct (map (λ r. pair_number spread seed part r.a r.b) records) ≡ true
   pub below : All (λ r. pair_number spread seed part r.a r.b < part.n) records
+
+-- the records of a partition that was built have numbers of their own in it
+pub part_of-HaveOwnNumbers : (rules : Rules) (seed : ℕ) (records : List Record) (part : PartData) → IsShape rules.shape →
+    part_of rules seed records ≡ Ok part → HaveOwnNumbers rules.shape.map seed part records
+part_of-HaveOwnNumbers rules seed [] part shape gives = record { distinct = refl; below = λ i d within. absurd (omega arith) }
+part_of-HaveOwnNumbers rules seed (r ∷ records) part shape gives =
+    let finished : HasFinished rules seed (r ∷ records) part = part_of-some rules seed (r ∷ records) part shape (omega arith) gives in
+    subst (λ p. HaveOwnNumbers rules.shape.map seed p (r ∷ records)) finished.is
+    (record {
+      distinct = pair_numbers_differ rules seed (r ∷ records) finished.state finished.finished;
+      below = λ i d within. pair_number-below rules seed (r ∷ records) finished.state finished.finished _ _;
+    })

@@ -11,9 +11,9 @@ use elias_fano::EliasFano;
 use pilot_search::Occupancy;
 use std::alloc::{AllocError, Global};
 
-/// The free list of a table in which `n` positions are taken.
+/// The free list of `n` keys in a table: the entry of each position from `n` on.
 pub fn free_list(alloc: Global, occupied: &Occupancy, n: u64) -> Result<EliasFano, NoMemory>
-    requires count { n ≡ set.len occupied.now.taken }
+    requires { n ≤ occupied.now.size }
     ensures { let taken = set.contains occupied.now.taken in
         IfOk result (λ free. free ≡ free_list_of taken n occupied.now.size) }
 {
@@ -36,9 +36,7 @@ fn free_entries(alloc: Global, occupied: &Occupancy, n: u64) -> Result<Vec<u64>,
     let mut rank = 0;
     for position in n..size {
         entries.push(entry_at(&free, rank))?;
-        if occupied.contains(position) {
-            rank += 1;
-        }
+        rank += u64::from(occupied.contains(position));
     }
     Ok(entries)
 }

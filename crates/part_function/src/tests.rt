@@ -2,9 +2,9 @@
 
 use super::*;
 use bucket_map::{Map, Record, Shape};
-use elias_fano::EliasFano;
-use murmur64::HashPair;
-use pilot_search::{Scratch, Stuck};
+use murmur64::{HashPair, hash_pair};
+use pilot_search::{Occupancy, Scratch, Stuck, place_one};
+use std::process::Abort;
 use std::test::Fail;
 
 // The seed at which pilot 0 has the hash 0, so that a position is a second hash modulo the size.
@@ -22,7 +22,23 @@ fn record(a: u64, b: u64) -> Record {
 }
 
 #[test]
-fn one_record_alone(rt: HostRuntime) -> Result<(), Fail> {
+fn no_record_has_no_value(rt: HostRuntime) -> Result<(), Fail> {
+    match build_part(&rt, rt.alloc(), &[], SHAPE, 1, 1, How::Alone)? {
+        Ok(part) => {
+            assert_eq!(rt; part.n, 0);
+            assert_eq!(rt; part.bucket_count(), 0);
+            assert_eq!(rt; part.table_size(), 0);
+            let pair = HashPair { a: 5, b: 7 };
+            assert_eq!(rt; part.value(Map::Skewed, pair, 1), None);
+            assert_eq!(rt; part.value(Map::Uniform, pair, 1), None);
+        }
+        Err(_) => panic!(rt; "no record is stuck"),
+    }
+    Ok(())
+}
+
+#[test]
+fn one_record_has_the_value_zero(rt: HostRuntime) -> Result<(), Fail> {
     let records = [record(0, 0)];
     match build_part(
         &rt,
@@ -38,15 +54,191 @@ fn one_record_alone(rt: HostRuntime) -> Result<(), Fail> {
             assert_eq!(rt; part.pilots.as_slice(), [0; 7].as_slice());
             assert_eq!(rt; part.bucket_count(), 7);
             assert_eq!(rt; part.table_size(), 3);
+            assert_eq!(rt; part.free.len(), 2);
             assert_eq!(rt; part.free.get(0), Some(0));
             assert_eq!(rt; part.free.get(1), Some(0));
-            assert_eq!(rt; part.free.len(), 2);
             for b in [0, 1] {
                 let pair = HashPair { a: 0, b };
                 assert_eq!(rt; part.value(Map::Skewed, pair, SEED_OF_ZERO), Some(0));
             }
         }
-        Err(_) => panic!(rt; "stuck"),
+        Err(_) => panic!(rt; "one record is stuck"),
+    }
+    Ok(())
+}
+
+#[test]
+fn a_taken_position_is_stuck(rt: HostRuntime) -> Result<(), Fail> {
+    let records = [record(0, 0), record(2, 3)];
+    let mut scratch = Scratch::with(rt.alloc(), 0)?;
+    let hows = [How::Alone, How::Rounds(1), How::Rounds(2), How::Turns(4)];
+    for how in hows {
+        let alone = build_part(&rt, rt.alloc(), &records, SHAPE, SEED_OF_ZERO, 1, how)?;
+        let lent = build_part_with(
+            &rt,
+            rt.alloc(),
+            &records,
+            SHAPE,
+            SEED_OF_ZERO,
+            1,
+            how,
+            &mut scratch,
+        )?;
+        for answer in [alone, lent] {
+            match answer {
+                Ok(_) => panic!(rt; "a part without a free position"),
+                Err(stuck) => assert_eq!(rt; stuck, Stuck { rank: 1, bucket: 2 }),
+            }
+        }
+    }
+    Ok(())
+}
+
+// The size of a table, its free positions, and its free list.
+const FREE_LISTS: [(u64, &[u64], &[u64]); 34] = [
+    (1, &[0], &[0]),
+    (1, &[], &[]),
+    (2, &[1], &[0]),
+    (3, &[1, 2], &[0, 0]),
+    (3, &[2], &[0]),
+    (3, &[1], &[1]),
+    (5, &[0, 3], &[0, 0]),
+    (5, &[0, 1], &[0, 1]),
+    (5, &[], &[]),
+    (9, &[5, 6], &[5, 6]),
+    (9, &[0, 3], &[0, 3]),
+    (9, &[0, 5], &[0, 5]),
+    (11, &[9], &[9]),
+    (11, &[6], &[6]),
+    (11, &[2], &[2]),
+    (20, &[4, 8, 12, 16], &[4, 4, 8, 12]),
+    (20, &[6, 9, 17, 19], &[6, 9, 9, 9]),
+    (20, &[2, 7, 9, 18], &[2, 7, 9, 9]),
+    (41, &[0], &[0]),
+    (41, &[20], &[20]),
+    (41, &[36], &[36]),
+    (
+        77,
+        &[
+            2, 4, 6, 15, 23, 31, 36, 44, 47, 53, 54, 57, 61, 63, 64, 74, 76,
+        ],
+        &[2, 4, 4, 6, 6, 6, 15, 23, 31, 36, 44, 47, 53, 54, 57, 57, 57],
+    ),
+    (
+        77,
+        &[
+            2, 15, 17, 20, 24, 26, 29, 35, 43, 46, 52, 54, 60, 61, 65, 71, 73,
+        ],
+        &[
+            2, 2, 2, 15, 17, 20, 20, 24, 26, 29, 35, 43, 43, 46, 46, 52, 54,
+        ],
+    ),
+    (
+        77,
+        &[
+            0, 3, 10, 14, 19, 27, 29, 41, 42, 43, 44, 50, 57, 59, 61, 66, 76,
+        ],
+        &[
+            0, 3, 3, 10, 14, 19, 27, 27, 29, 41, 42, 43, 44, 50, 57, 59, 59,
+        ],
+    ),
+    (7, &[0, 1, 2], &[0, 1, 2]),
+    (7, &[4, 5, 6], &[0, 0, 0]),
+    (7, &[0, 5, 6], &[0, 0, 0]),
+    (9, &[0, 1, 2], &[0, 1, 2]),
+    (9, &[6, 7, 8], &[0, 0, 0]),
+    (9, &[0, 7, 8], &[0, 0, 0]),
+    (6, &[1, 3], &[1, 3]),
+    (6, &[3, 4], &[3, 3]),
+    (6, &[2, 5], &[2, 2]),
+    (6, &[4, 5], &[0, 0]),
+];
+
+#[test]
+fn free_lists_are_those_of_an_independent_program(rt: HostRuntime) -> Result<(), Fail> {
+    for (size, free, entries) in FREE_LISTS {
+        assert!(rt; 1 <= size && size <= 77);
+        let mut members = Vec::new(rt.alloc());
+        for position in 0..size {
+            if !free.contains(&position) {
+                members.push(position)?;
+            }
+        }
+        let count = members.len() as u64;
+        assert!(rt; count <= size);
+        let mut occupied = Occupancy::new(rt.alloc(), size)?;
+        let mut scratch = Scratch::with(rt.alloc(), count)?;
+        if count > 0 {
+            let found = place_one(SEED_OF_ZERO, 1, &members, &mut occupied, &mut scratch);
+            assert_eq!(rt; found, Some(0));
+        }
+        assert!(rt; count == occupied.count());
+        let list = free_list(rt.alloc(), &occupied, count)?;
+        assert_eq!(rt; list.len(), entries.len() as u64, "{count} of {size}");
+        for i in 0..list.len() {
+            assert_eq!(rt;
+                list.get(i),
+                entries.get(i as usize).copied(),
+                "{count} of {size}, entry {i}"
+            );
+        }
+    }
+    Ok(())
+}
+
+// The records of the numbers below a count, as keys.
+fn records_of_numbers(alloc: Global, count: u64, seed: u64) -> Result<Vec<Record>, NoMemory> {
+    let mut records = Vec::new(alloc);
+    for ordinal in 0..count {
+        let HashPair { a, b } = hash_pair(&ordinal.to_le_bytes(), seed);
+        records.push(Record { a, b, ordinal })?;
+    }
+    Ok(records)
+}
+
+// Whether two partitions have the same pilots and the same free list.
+fn are_equal(one: &Part, two: &Part) -> bool {
+    if one.n != two.n || one.pilots != two.pilots || one.free.len() != two.free.len() {
+        return false;
+    }
+    for i in 0..one.free.len() {
+        if one.free.get(i) != two.free.get(i) {
+            return false;
+        }
+    }
+    true
+}
+
+#[test]
+fn a_partition_is_the_same_however_it_is_searched(rt: HostRuntime) -> Result<(), Fail> {
+    let mut scratch = Scratch::with(rt.alloc(), 0)?;
+    for map in [Map::Skewed, Map::Uniform] {
+        let shape = Shape { map, ..SHAPE };
+        for count in [40, 1500] {
+            let records = records_of_numbers(rt.alloc(), count, count)?;
+            assert!(rt; records.len() <= 1500);
+            let alone = build_part(&rt, rt.alloc(), &records, shape, count, 100_000, How::Alone)?;
+            for how in [How::Alone, How::Rounds(1), How::Rounds(2), How::Turns(4)] {
+                let other = build_part(&rt, rt.alloc(), &records, shape, count, 100_000, how)?;
+                let lent = build_part_with(
+                    &rt,
+                    rt.alloc(),
+                    &records,
+                    shape,
+                    count,
+                    100_000,
+                    how,
+                    &mut scratch,
+                )?;
+                match (&alone, other, lent) {
+                    (Ok(part), Ok(other), Ok(lent)) => {
+                        assert!(rt; are_equal(part, &other), "{count} records, {how:?}");
+                        assert!(rt; are_equal(part, &lent), "{count} records, {how:?}");
+                    }
+                    _ => panic!(rt; "a search is stuck"),
+                }
+            }
+        }
     }
     Ok(())
 }

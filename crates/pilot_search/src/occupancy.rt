@@ -54,6 +54,7 @@ impl Occupancy {
     pub fn size(&self) -> u64
         ensures value { result ≡ self.now.size }
         ensures positive { 1 ≤ result }
+        ensures bound { result ≤ MAX_POSITIONS }
     {
         self.size
     }

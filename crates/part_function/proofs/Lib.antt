@@ -1,0 +1,3 @@
+mod FreeWalk
+mod FreeEntries
+mod Rising
