@@ -1,6 +1,5 @@
 -- What the answers of an attempt and of a build stand for.
-use Rattle.std.specs.Prelude.{◌≡◌, ℕ, ◌+◌, ◌-◌, ◌<◌, List, [], length, slice_index, slice_index_or, Result, Ok, Err, IfOk}
-use Rattle.std.specs.Vec.{Vec}
+use Rattle.std.specs.Prelude.{◌≡◌, ℕ, ◌+◌, ◌-◌, ◌<◌, List, [], length, slice_index, slice_index_or, Result, Ok, Err, IfOk, Vec}
 use Rattle.pthash.specs.declared.Record.{Record}
 use Rattle.bucket_map.specs.declared.order.NoMemory.{NoMemory as Want}
 use Rattle.build_outcome.specs.Attempt.{Rules, Attempt, clashed, stuck, complete}
@@ -17,7 +16,7 @@ use Rattle.hem_build.specs.declared.refusal.Refusal.TheVariants.{RepeatedKey, Se
 -- partitions, or the first that is stuck
 abbrev pub group_data : {Z : Type 0} → Result (Vec PartData Z) StuckPart → Result (List PartData) (ℕ × ℕ)
 group_data (Ok parts) = Ok parts.items
-group_data (Err stuck) = Err (stuck.part, stuck.bucket)
+group_data (Err place) = Err (place.part, place.bucket)
 
 -- each group has its answer, but for want of memory
 pub record AreGroupAnswers {Z : Type 0} (rules : Rules) (seed : ℕ) (partitions : List (List Record)) (starts : List ℕ)

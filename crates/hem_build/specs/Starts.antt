@@ -14,7 +14,7 @@ pub record AreStarts (parts : List PartData) (starts : List ℕ) : Type 0 where
 -- an index is valid, and kept with where its partitions begin
 pub record IsHeldIndex (x : IndexData) (starts : List ℕ) : Type 0 where
   pub valid : IsValidIndex x
-  pub starts : AreStarts x.parts starts
+  pub begin : AreStarts x.parts starts
 
 -- no partition has more records than a list may have keys
 abbrev pub FewKeys : List (List Record) → Type 0

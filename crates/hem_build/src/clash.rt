@@ -1,6 +1,7 @@
 // The first clash of a list of keys.
-ghost use Rattle.std.specs.Prelude.{◌≡◌, ◌≤◌, AllPairs, IfOk};
+ghost use Rattle.std.specs.Prelude.{◌≡◌, ◌≤◌, length, AllPairs, IfOk};
 ghost use Rattle.std.specs.List.Sorted.{IsPermutation};
+ghost use Rattle.pthash.specs.declared.TheConstants.{MAX_KEYS};
 ghost use Rattle.bucket_map.specs.Clash.{IsNoLater};
 ghost use Rattle.bucket_map.proofs.CallerLemmas.{IsClashAnswer};
 ghost use Rattle.build_outcome.specs.Clash.{clash_of};
@@ -20,7 +21,8 @@ pub(crate) fn first_clash<R: Threads + Sync>(
     seed: u64,
     workers: u32,
 ) -> Result<Option<(u64, u64)>, NoMemory>
-    requires { 1 ≤ workers }
+    requires some { 1 ≤ workers }
+    requires few { length keys.now ≤ MAX_KEYS }
     ensures { IfOk result (λ clash. clash ≡ clash_of keys.now seed) }
 {
     let mut records = records_of_keys(rt, alloc, keys, seed, workers)?;

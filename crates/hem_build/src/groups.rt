@@ -79,17 +79,15 @@ fn group_end(partitions: &Partitions, start: u64, wanted: u64) -> u64
     ensures low { start ≤ result }
     ensures high { result ≤ length partitions.now }
 {
-    let mut end = start;
     let mut counted: u64 = 0;
-    while end < partitions.len() {
-        let more = partitions.records(end).len() as u64;
+    for number in start..partitions.len() {
+        let more = partitions.records(number).len() as u64;
         if counted.saturating_add(more / 2) > wanted {
-            break;
+            return number;
         }
         counted = counted.saturating_add(more);
-        end += 1;
     }
-    end
+    partitions.len()
 }
 
 // Builds the partitions of a group one after another, up to the first that is stuck.

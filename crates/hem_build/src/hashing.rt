@@ -1,7 +1,8 @@
 // The keys of a list as records, hashed at the same time.
-ghost use Rattle.std.specs.Prelude.{◌≡◌, ◌+◌, ◌≤◌, length, IfOk};
+ghost use Rattle.std.specs.Prelude.{◌≡◌, ◌≤◌, length, IfOk};
+ghost use Rattle.pthash.specs.declared.TheConstants.{MAX_KEYS};
 ghost use Rattle.pthash.specs.Records.{records_of};
-ghost use Rattle.hem_build.specs.Shares.{AreRecordsFrom};
+ghost use Rattle.hem_build.specs.Shares.{IsShareOf, AreRecordsFrom};
 
 use bucket_map::{NoMemory, Record};
 use murmur64::hash_pair;
@@ -18,7 +19,8 @@ pub(crate) fn records_of_keys<R: Threads + Sync>(
     seed: u64,
     workers: u32,
 ) -> Result<Vec<Record>, NoMemory>
-    requires { 1 ≤ workers }
+    requires some { 1 ≤ workers }
+    requires few { length keys.now ≤ MAX_KEYS }
     ensures { IfOk result (λ records. records.items ≡ records_of keys.now seed) }
 {
     let mut records = blank_records(alloc, keys.len() as usize)?;
@@ -47,6 +49,7 @@ fn hash_all<R: Threads + Sync>(
     records: &mut [Record],
 )
     requires some { 1 ≤ workers }
+    requires few { length keys.now ≤ MAX_KEYS }
     requires room { length records.old ≡ length keys.now }
     ensures { records.new ≡ records_of keys.now seed }
 {
@@ -59,15 +62,15 @@ fn hash_all<R: Threads + Sync>(
         records,
         share,
         &|start: usize, chunk: &mut [Record]|
-            requires { start + length chunk.now ≤ length keys.now }
-            ensures { AreRecordsFrom keys.entry.now seed.entry start chunk.entry.now chunk.exit.now }
+            requires { IsShareOf keys.now start chunk.now }
+            ensures { AreRecordsFrom keys.entry.now seed start chunk.entry.now chunk.exit.now }
         { hash_share(keys, seed, start as u64, chunk) },
     );
 }
 
 // Writes the records of the keys from a place on.
 fn hash_share(keys: &KeyList, seed: u64, start: u64, share: &mut [Record])
-    requires { start + length share.old ≤ length keys.now }
+    requires { IsShareOf keys.now start share.old }
     ensures { AreRecordsFrom keys.now seed start share.old share.new }
 {
     for i in 0..share.len() {
