@@ -1,16 +1,19 @@
 -- Groups of neighbouring partitions: where they begin, and what they come to.
 use Rattle.std.proofs.Common.{◌≡◌, ℕ, zero, suc, ◌+◌, ◌-◌, ◌<◌, ◌≤◌, List, [], ◌∷◌, ◌++◌, length, get_or, Result, Ok, Err}
-use Rattle.std.proofs.Common.{refl, sym, ap, ◌∙◌, arith, ⊎_elim}
-use Rattle.std.specs.Prelude.{slice_index, slice_index_or}
+use Rattle.std.proofs.Common.{refl, sym, ap, ◌∙◌, subst, arith, ⊎_elim}
+use Rattle.std.specs.Prelude.{slice_index, slice_index_or, IfOk, Vec}
 use Rattle.std.proofs.lemmas.Bool.{cases_lt}
 use Rattle.std.proofs.lemmas.List.{length-append, get_or_append_left, get_or-append-add, append_assoc}
 use Rattle.pthash.specs.declared.Record.{Record}
+use Rattle.bucket_map.specs.declared.order.NoMemory.{NoMemory as Want}
 use Rattle.build_outcome.specs.Attempt.{Rules, part_of, before_parts, parts_from}
 use Rattle.build_outcome.specs.Index.{PartData}
 use Rattle.build_outcome.specs.OnePart.{one_part, part_of-one_part}
 use Rattle.build_outcome.specs.Ranges.{joined, joined-nil, joined-done, joined_assoc, parts_between, parts_between-all, parts_between-none}
 use Rattle.build_outcome.specs.Ranges.{parts_between-cons, parts_between-joined}
+use Rattle.hem_build.specs.Answers.{group_data, AreGroupAnswers}
 use Rattle.hem_build.specs.Starts.{AreGroupStarts}
+use Rattle.hem_build.specs.declared.groups.StuckPart.{StuckPart}
 
 -- the starts of the first groups, and where the next one begins
 pub record AreGroupsTo (partitions i next : ℕ) (starts : List ℕ) : Type 0 where
@@ -175,3 +178,43 @@ group_stuck rules seed from next later to partitions built stuck first second wi
 pub all_between : (rules : Rules) (seed n : ℕ) (partitions : List (List Record)) → n ≡ length partitions →
     parts_between rules seed partitions 0 n ≡ parts_from rules seed 0 partitions
 all_between rules seed n partitions is = ap (parts_between rules seed partitions 0) is ∙ parts_between-all rules seed partitions
+
+-- answers that each group gives are those of the groups
+pub group_answers_each : {Z : Type 0} (rules : Rules) (seed : ℕ) (partitions : List (List Record)) (starts : List ℕ) (group : ℕ)
+    (answers : List (Result (Result (Vec PartData Z) StuckPart) Want)) → length starts ≡ group + length answers + 1 →
+    ((i : ℕ) (d : Result (Result (Vec PartData Z) StuckPart) Want) → i < length answers → IfOk (slice_index_or answers i d)
+    (λ ends. group_data ends ≡ parts_between rules seed partitions (slice_index starts (group + i)) (slice_index starts (group + i + 1)))) →
+    AreGroupAnswers rules seed partitions starts group answers
+group_answers_each rules seed partitions starts group [] count each = omega arith
+group_answers_each {Z} rules seed partitions starts group (answer ∷ answers) count each =
+    let here : group + 0 ≡ group = omega arith in (
+      subst (λ k. IfOk answer (λ ends. group_data ends ≡ parts_between rules seed partitions (slice_index starts k) (slice_index starts (k + 1)))) here
+          (each 0 answer (omega arith)),
+      group_answers_each rules seed partitions starts (group + 1) answers (omega arith)
+          (λ i d within.
+          let next : group + suc i ≡ group + 1 + i = omega arith in
+          subst (λ k. IfOk (slice_index_or answers i d)
+          (λ ends. group_data ends ≡ parts_between rules seed partitions (slice_index starts k) (slice_index starts (k + 1)))) next
+          (each (suc i) d (omega arith))),
+    )
+
+-- the same of all groups
+pub group_answers_all : {Z : Type 0} (rules : Rules) (seed : ℕ) (partitions : List (List Record)) (starts : List ℕ)
+    (answers : List (Result (Result (Vec PartData Z) StuckPart) Want)) → length starts ≡ length answers + 1 →
+    ((i : ℕ) (d : Result (Result (Vec PartData Z) StuckPart) Want) → i < length answers → IfOk (slice_index_or answers i d)
+    (λ ends. group_data ends ≡ parts_between rules seed partitions (slice_index starts i) (slice_index starts (i + 1)))) →
+    AreGroupAnswers rules seed partitions starts 0 answers
+group_answers_all rules seed partitions starts answers count each =
+    group_answers_each rules seed partitions starts 0 answers (omega arith)
+    (λ i d within.
+    let same : i ≡ 0 + i = omega arith in
+    subst (λ k. IfOk (slice_index_or answers i d)
+    (λ ends. group_data ends ≡ parts_between rules seed partitions (slice_index starts k) (slice_index starts (k + 1)))) same (each i d within))
+
+-- there is a start for each group whose answer is left, and the end
+pub answers_count : {Z : Type 0} (rules : Rules) (seed : ℕ) (partitions : List (List Record)) (starts : List ℕ) (group : ℕ)
+    (answers : List (Result (Result (Vec PartData Z) StuckPart) Want)) → AreGroupAnswers rules seed partitions starts group answers →
+    length starts ≡ group + length answers + 1
+answers_count rules seed partitions starts group [] are = omega arith
+answers_count rules seed partitions starts group (answer ∷ answers) are =
+    omega (arith, answers_count rules seed partitions starts (group + 1) answers are.1)

@@ -1,6 +1,8 @@
 mod Attempts
 mod Clashes
+mod Endings
 mod Grouping
+mod Lookups
 mod Marking
 mod Outcomes
 mod RecordShares

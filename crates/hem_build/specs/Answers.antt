@@ -1,5 +1,5 @@
 -- What the answers of an attempt and of a build stand for.
-use Rattle.std.specs.Prelude.{◌≡◌, ℕ, ◌+◌, ◌-◌, ◌<◌, List, [], length, slice_index, slice_index_or, Result, Ok, Err, IfOk, Vec}
+use Rattle.std.specs.Prelude.{◌≡◌, ℕ, ◌+◌, List, [], ◌∷◌, length, slice_index, Result, Ok, Err, IfOk, Vec}
 use Rattle.pthash.specs.declared.Record.{Record}
 use Rattle.bucket_map.specs.declared.order.NoMemory.{NoMemory as Want}
 use Rattle.build_outcome.specs.Attempt.{Rules, Attempt, clashed, stuck, complete}
@@ -18,13 +18,12 @@ abbrev pub group_data : {Z : Type 0} → Result (Vec PartData Z) StuckPart → R
 group_data (Ok parts) = Ok parts.items
 group_data (Err place) = Err (place.part, place.bucket)
 
--- each group has its answer, but for want of memory
-pub record AreGroupAnswers {Z : Type 0} (rules : Rules) (seed : ℕ) (partitions : List (List Record)) (starts : List ℕ)
-    (answers : List (Result (Result (Vec PartData Z) StuckPart) Want)) : Type 0 where
-  pub count : length answers ≡ length starts - 1
-  pub each : (i : ℕ) (d : Result (Result (Vec PartData Z) StuckPart) Want) → i < length answers
-      → IfOk (slice_index_or answers i d)
-      (λ answer. group_data answer ≡ parts_between rules seed partitions (slice_index starts i) (slice_index starts (i + 1)))
+-- each group from this one on has its answer, but for want of memory
+abbrev pub AreGroupAnswers : {Z : Type 0} → Rules → ℕ → List (List Record) → List ℕ → ℕ → List (Result (Result (Vec PartData Z) StuckPart) Want) → Type 0
+AreGroupAnswers rules seed partitions starts group [] = length starts ≡ group + 1
+AreGroupAnswers rules seed partitions starts group (answer ∷ answers) =
+    IfOk answer (λ ends. group_data ends ≡ parts_between rules seed partitions (slice_index starts group) (slice_index starts (group + 1)))
+    × AreGroupAnswers rules seed partitions starts (group + 1) answers
 
 -- an attempt
 abbrev pub attempt_data : tried.Attempt → Attempt

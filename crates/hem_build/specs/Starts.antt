@@ -1,7 +1,10 @@
 -- Where partitions and groups of them begin.
-use Rattle.std.specs.Prelude.{◌≡◌, ℕ, ◌+◌, ◌<◌, ◌≤◌, List, [], length, take, slice_index, slice_index_or}
+use Rattle.std.specs.Prelude.{◌≡◌, ℕ, ◌+◌, ◌-◌, ◌<◌, ◌≤◌, List, [], length, take, slice_index, slice_index_or}
 use Rattle.pthash.specs.declared.Record.{Record}
-use Rattle.pthash.specs.declared.TheConstants.{MAX_KEYS}
+use Rattle.pthash.specs.declared.TheConstants.{MAX_KEYS, MAX_PARTITIONS}
+use Rattle.settings.specs.Workers.{workers_of}
+use Rattle.settings.specs.declared.how.How.{How}
+use Rattle.settings.specs.declared.settings.TheConstants.{MAX_WORKERS}
 use Rattle.build_outcome.specs.Index.{PartData, IndexData}
 use Rattle.build_outcome.specs.Validity.{IsValidIndex}
 use Rattle.build_outcome.specs.Values.{key_count}
@@ -27,3 +30,13 @@ pub record AreGroupStarts (groups partitions : ℕ) (starts : List ℕ) : Type 0
   pub last : slice_index starts groups ≡ partitions
   pub rising : (k : ℕ) → k < groups → slice_index starts k ≤ slice_index starts (k + 1)
   pub within : (k : ℕ) → k ≤ groups → slice_index starts k ≤ partitions
+
+-- one of the groups of few small partitions, and how it is searched: with some workers, but no more than there are
+pub record IsGroupOf (partitions : List (List Record)) (starts : List ℕ) (group : ℕ) (all how : How) : Type 0 where
+  pub few_partitions : length partitions ≤ MAX_PARTITIONS
+  pub few_keys : FewKeys partitions
+  pub bounds : AreGroupStarts (length starts - 1) (length partitions) starts
+  pub within : group + 1 < length starts
+  pub some_worker : 1 ≤ workers_of how
+  pub few_workers : workers_of how ≤ workers_of all
+  pub most_workers : workers_of all ≤ MAX_WORKERS

@@ -68,6 +68,24 @@ impl Built {
             starts,
         })
     }
+
+    /// The value of a key; those of the keys of the list are pairwise different.
+    pub fn lookup(&self, key: &[u8]) -> Option<u64>
+        ensures value { result ≡ value_of self.now key.now }
+        ensures none { let seed = self.now.seed in let parts = self.now.parts in
+            (result ≡ None) ↔ ((part_at parts (partition_of (first_hash key.now seed)
+            (second_hash key.now seed) (length parts))).n ≡ 0) }
+        ensures below { IfSome result (λ value. value < self.now.n) }
+        ensures valid { IsValidIndex self.now }
+    {
+        let pair = hash_pair(key, self.seed);
+        let number = partition_of(pair.a, pair.b, self.parts.len() as u32) as usize;
+        let part = &self.parts[number];
+        match part.value(self.shape.map, pair, self.seed) {
+            Some(value) => Some(self.starts[number] + value),
+            None => None,
+        }
+    }
 }
 
 // How many keys the partitions before each have.

@@ -1,16 +1,17 @@
 // The partitions of an attempt, built in groups of neighbours at the same time.
-ghost use Rattle.std.specs.Prelude.{◌≡◌, ◌+◌, ◌-◌, ◌<◌, ◌≤◌, ℕ, [], length, slice_index, slice_index_or, IfOk};
+ghost use Rattle.std.specs.Prelude.{◌≡◌, ◌+◌, ◌-◌, ◌≤◌, length, slice_index, IfOk};
+ghost use Rattle.std.specs.Thread.{IsSync};
 ghost use Rattle.pthash.specs.declared.TheConstants.{MAX_PARTITIONS};
 ghost use Rattle.settings.specs.Settings.{settings_data};
-ghost use Rattle.settings.specs.Workers.{workers_of};
 ghost use Rattle.build_outcome.specs.Attempt.{parts_from};
 ghost use Rattle.build_outcome.specs.Ranges.{parts_between};
 ghost use Rattle.hem_build.specs.Answers.{group_data, AreGroupAnswers};
 ghost use Rattle.hem_build.specs.Rules.{rules_of};
-ghost use Rattle.hem_build.specs.Starts.{AreGroupStarts, FewKeys};
+ghost use Rattle.hem_build.specs.declared.workers.TheConstants.{MOST_GROUPS};
+ghost use Rattle.hem_build.specs.Starts.{AreGroupStarts, IsGroupOf, FewKeys};
 
-use crate::workers::{group_count, how_in_group};
-use bucket_map::{MAX_KEYS, NoMemory, Partitions};
+use crate::workers::{MOST_GROUPS, group_count, how_in_group};
+use bucket_map::{NoMemory, Partitions};
 use part_function::{Part, build_part_with};
 use pilot_search::Scratch;
 use settings::{How, Settings};
@@ -42,14 +43,20 @@ pub(crate) fn build_partitions<R: Threads + Sync>(
 {
     let groups = group_count(settings.how, partitions.len());
     let how = how_in_group(settings.how, groups);
-    let starts = group_starts(alloc, partitions, n, groups)?;
+    let bounds = group_starts(alloc, partitions, n, groups)?;
+    let starts = bounds.as_slice();
     let answers = thread::map_indices(
         rt,
         alloc,
         groups as usize,
-        &|group| build_group(rt, alloc, partitions, &starts, group, seed, settings, how),
+        &|group: usize| -> Result<Result<Vec<Part>, StuckPart>, NoMemory>
+            requires { IsSync R.row × IsGroupOf partitions.now starts.now group settings.now.how how }
+            ensures { IfOk result (λ answer. group_data answer
+                ≡ parts_between (rules_of (settings_data settings.entry.now)) seed partitions.entry.now
+                (slice_index starts.entry.now group) (slice_index starts.entry.now (group + 1))) }
+        { build_group(rt, alloc, partitions, starts, group, seed, settings, how) },
     )?;
-    join_groups(alloc, partitions, &starts, seed, settings, answers)
+    join_groups(alloc, partitions, starts, seed, settings, answers)
 }
 
 // Where groups of neighbours with about as many records each begin; one more start is the end.
@@ -59,7 +66,8 @@ fn group_starts(
     n: u64,
     groups: u64,
 ) -> Result<Vec<u64>, AllocError>
-    requires { 1 ≤ groups }
+    requires some { 1 ≤ groups }
+    requires most { groups ≤ MOST_GROUPS }
     ensures { IfOk result (λ v. AreGroupStarts groups (length partitions.now) v.items) }
 {
     let wanted = n / groups;
@@ -101,12 +109,7 @@ fn build_group<R: Threads + Sync>(
     settings: &Settings,
     how: How,
 ) -> Result<Result<Vec<Part>, StuckPart>, NoMemory>
-    requires few_partitions { length partitions.now ≤ MAX_PARTITIONS }
-    requires few_keys { FewKeys partitions.now }
-    requires starts { AreGroupStarts (length starts.now - 1) (length partitions.now) starts.now }
-    requires group { group + 1 < length starts.now }
-    requires some_worker { 1 ≤ workers_of how }
-    requires few_workers { workers_of how ≤ workers_of settings.now.how }
+    requires { IsGroupOf partitions.now starts.now group settings.now.how how }
     ensures { IfOk result (λ answer. group_data answer
         ≡ parts_between (rules_of (settings_data settings.now)) seed partitions.now
         (slice_index starts.now group) (slice_index starts.now (group + 1))) }
@@ -148,7 +151,7 @@ fn join_groups(
 ) -> Result<Result<Vec<Part>, StuckPart>, NoMemory>
     requires starts { AreGroupStarts (length starts.now - 1) (length partitions.now) starts.now }
     requires answers { AreGroupAnswers (rules_of (settings_data settings.now)) seed partitions.now
-        starts.now answers.items }
+        starts.now 0 answers.items }
     ensures { IfOk result (λ answer. group_data answer
         ≡ parts_from (rules_of (settings_data settings.now)) seed 0 partitions.now) }
 {

@@ -1,11 +1,12 @@
 // How workers are shared out: over groups of partitions, and within a group over its searches.
 ghost use Rattle.std.specs.Prelude.{◌≡◌, ◌≤◌};
 ghost use Rattle.settings.specs.Workers.{workers_of};
+ghost use Rattle.hem_build.specs.declared.workers.TheConstants.{MOST_GROUPS};
 
 use settings::How;
 
 // The most groups of partitions that are built at the same time.
-const MOST_GROUPS: u64 = 8;
+pub(crate) const MOST_GROUPS: u64 = 8;
 
 // How many threads a build may use at the same time.
 pub(crate) fn worker_count(how: How) -> u32
@@ -23,6 +24,7 @@ pub(crate) fn group_count(how: How, partitions: u64) -> u64
     requires some_partition { 1 ≤ partitions }
     ensures some { 1 ≤ result }
     ensures few { result ≤ workers_of how }
+    ensures most { result ≤ MOST_GROUPS }
 {
     MOST_GROUPS
         .min(u64::from(worker_count(how)))
