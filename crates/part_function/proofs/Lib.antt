@@ -1,3 +1,5 @@
 mod FreeWalk
 mod FreeEntries
 mod Rising
+mod Numbered
+mod PlacedParts

@@ -16,6 +16,6 @@ pub record IsPart (part : PartData) : Type 0 where
 
 -- a partition and its divisors, for its buckets and its positions; those of an empty one are 1
 pub record IsHeldPart (part : PartData) (buckets positions : ℕ) : Type 0 where
-  pub part : IsPart part
+  pub keeps : IsPart part
   pub buckets_are : buckets ≡ max (length part.pilots) 1
   pub positions_are : positions ≡ max (part_size part) 1

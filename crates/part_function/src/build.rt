@@ -181,6 +181,8 @@ fn placed_part(
 ) -> Result<Part, NoMemory>
     requires some { 0 < length records.now }
     requires few { length records.now ≤ MAX_KEYS }
+    requires some_pilot { 1 ≤ plan.limit }
+    requires few_pilots { plan.limit ≤ MAX_PILOTS }
     requires plan { plan ≡ partition_plan (one_part (shape_data shape) plan.limit) plan.seed records.now }
     requires placed { IsPlaced plan placed }
     ensures { IfOk result (λ part.

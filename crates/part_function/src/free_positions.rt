@@ -1,10 +1,11 @@
 // The free list: where the positions behind the keys are sent.
 
-ghost use Rattle.std.specs.Prelude.{◌≡◌, ◌≤◌, ◌-◌, length, map, slice_index, min, IfOk};
+ghost use Rattle.std.specs.Prelude.{◌≡◌, ◌<◌, ◌≤◌, ◌-◌, length, map, slice_index, min, IfOk};
 ghost use Rattle.std.specs.FinSet as set;
+ghost use Rattle.pthash.specs.declared.TheConstants.{MAX_POSITIONS};
 ghost use Rattle.pthash.specs.Order.{numbers_below};
 ghost use Rattle.build_outcome.specs.FreeList.{free_below, free_list_of};
-ghost use Rattle.part_function.specs.Walk.{IsNextFree};
+ghost use Rattle.part_function.specs.Walk.{IsNextFree, IsRunOfOnes};
 
 use bucket_map::NoMemory;
 use elias_fano::EliasFano;
@@ -27,8 +28,9 @@ pub fn free_list(alloc: Global, occupied: &Occupancy, n: u64) -> Result<EliasFan
 // The entry of each position from `n` on.
 fn free_entries(alloc: Global, occupied: &Occupancy, n: u64) -> Result<Vec<u64>, AllocError>
     requires { n ≤ occupied.now.size }
-    ensures { let taken = set.contains occupied.now.taken in
+    ensures entries { let taken = set.contains occupied.now.taken in
         IfOk result (λ v. v.items ≡ free_list_of taken n occupied.now.size) }
+    ensures few { IfOk result (λ v. length v.items ≤ MAX_POSITIONS) }
 {
     let free = free_positions(alloc, occupied, n)?;
     let size = occupied.size();
@@ -71,15 +73,30 @@ fn free_positions(alloc: Global, occupied: &Occupancy, n: u64) -> Result<Vec<u64
 fn next_free(occupied: &Occupancy, from: u64, end: u64) -> u64
     requires from { from ≤ end }
     requires end { end ≤ occupied.now.size }
+    requires bound { end ≤ MAX_POSITIONS }
     ensures { IsNextFree (set.contains occupied.now.taken) from end result }
 {
     let mut position = from;
     while position < end {
-        let free = !occupied.word(position / 64) >> (position % 64);
-        if free != 0 {
-            return end.min(position + u64::from(free.trailing_zeros()));
+        let place = position % 64;
+        let run = taken_run(occupied.word(position / 64), place);
+        position += run;
+        if place + run < 64 {
+            return position.min(end);
         }
-        position = (position / 64 + 1) * 64;
     }
     end
+}
+
+// How many bits of a word from a place on are set before one that is not.
+fn taken_run(word: u64, place: u64) -> u64
+    requires { place < 64 }
+    ensures { IsRunOfOnes word place result }
+{
+    let free = !word >> place;
+    if free > 0 {
+        u64::from(free.trailing_zeros())
+    } else {
+        64 - place
+    }
 }

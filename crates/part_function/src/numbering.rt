@@ -19,6 +19,15 @@ pub(crate) fn by_number(
         (bucket_at plan.buckets rank).number < m }
     ensures { IfOk result (λ v. v.items ≡ pilots_by_number plan.buckets pilots.items m) }
 {
+    numbered(alloc, &plan, &pilots, m)
+}
+
+fn numbered(alloc: Global, plan: &Plan, pilots: &[u64], m: u64) -> Result<Vec<u64>, AllocError>
+    requires one_a_rank { length pilots.now ≡ length plan.now.buckets }
+    requires below { (rank : ℕ) → rank < length plan.now.buckets →
+        (bucket_at plan.now.buckets rank).number < m }
+    ensures { IfOk result (λ v. v.items ≡ pilots_by_number plan.now.buckets pilots.now m) }
+{
     let mut by_number = zeros(alloc, m as usize)?;
     for rank in (0..plan.ranks()).rev() {
         by_number[plan.bucket(rank) as usize] = pilots[rank as usize];
