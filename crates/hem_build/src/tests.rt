@@ -1,1 +1,1 @@
-// Whole builds, beside those of an independent program.
+// Whole builds by each kind of search, beside those of an independent program.
