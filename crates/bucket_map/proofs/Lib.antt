@@ -12,3 +12,5 @@ pub mod Neighbours
 pub mod LeastClash
 pub mod Moved
 pub mod PartitionRecords
+pub mod Scattering
+pub mod CallerLemmas

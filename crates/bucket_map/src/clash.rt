@@ -28,8 +28,8 @@ fn sort_records(records: &mut [Record])
     records.sort_unstable_by_key(|r| (r.a, r.b, r.ordinal));
 }
 
-// The least clash of sorted records, found among neighbours.
-fn least_repeat(records: &[Record]) -> Option<(u64, u64)>
+/// The same of records that are sorted by both hashes and then by ordinal.
+pub fn least_repeat(records: &[Record]) -> Option<(u64, u64)>
     requires { AllPairs IsNoLater records.now }
     ensures none { IsNone result ↔ HasDistinctPairs records.now }
     ensures clash { IfSome result (λ c. Clash records.now c.0 c.1) }

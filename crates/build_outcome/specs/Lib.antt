@@ -10,6 +10,7 @@ pub mod MarkLaws
 pub mod Attempt
 pub mod PartLaws
 pub mod OnePart
+pub mod Ranges
 pub mod AttemptParts
 pub mod ValueLaws
 pub mod AttemptLaws

@@ -1,6 +1,10 @@
 //! What a build of a list of keys comes to, as definitions that contracts cite.
 #![tactic(auto)]
 
+mod mark;
+
+pub use crate::mark::KeyMark;
+
 /// Why a seed did not succeed.
 #[derive(Clone, Copy, Debug, PartialEq, Eq)]
 pub enum Cause {

@@ -22,6 +22,7 @@ use std::alloc::Global;
 use std::env::Args;
 use std::io::ErrorKind;
 use std::process::ExitCode;
+use std::thread::Threads;
 use std::{env, io};
 use std_sink::StdSink;
 
@@ -33,7 +34,7 @@ fn main(rt: HostRuntime) -> ExitCode {
 }
 
 // Does what the words ask for that the system gave after the program's name, and answers the status.
-fn answer<R, F: Files, O: Sink>(
+fn answer<R: Threads + Sync, F: Files, O: Sink>(
     rt: &R,
     alloc: Global,
     args: io::Result<Args>,

@@ -1,11 +1,4 @@
-mod Attempts
-mod Clashes
 mod Endings
-mod Numbered
-mod Outcomes
-mod PartitionPilots
-mod PartitionResults
-mod Partitions
 mod Repeats
 mod Results
 mod TextSteps

@@ -5,13 +5,13 @@ use Rattle.std.specs.FinMap as map
 use Rattle.build_outcome.specs.Outcome.{Outcome, repeated, exhausted, built, outcome_of}
 use Rattle.build_outcome.specs.OutcomeLaws.{repeated_key}
 use Rattle.command_words.specs.Options.{OptionsData}
+use Rattle.hem_build.specs.Rules.{rules_of}
 use Rattle.pth_outside.specs.Files.{FileMap}
 use Rattle.pth_outside.specs.Keys.{keys_of, first_too_long}
 use Rattle.pth_top.specs.declared.TheConstants.{REPEATED_KEY}
 use Rattle.pth_top.specs.declared.answer.Answer.{Answer}
 use Rattle.pth_top.specs.Done.{Done, done_of}
 use Rattle.pth_top.specs.Pilots.{HasRepeat, pilots_result, keys_result, outcome_result, unless_too_long, too_many_result}
-use Rattle.pth_top.specs.Rules.{rules_of}
 
 -- an outcome with this status
 of_outcome : (o : OptionsData) (keys : List (List ℕ)) (outcome : Outcome) →

@@ -1,38 +1,18 @@
 -- What the answers of `pilots` give, in the words of its definition.
-use Rattle.std.proofs.Common.{◌≡◌, ℕ, ◌+◌, ◌≤◌, false, true, List, [], ◌∷◌, ◌++◌, length, map, take, Option, Some, None, IfSome, option_map}
+use Rattle.std.proofs.Common.{◌≡◌, ℕ, ◌≤◌, false, true, List, [], ◌∷◌, length, take, Option, Some, None, IfSome, option_map}
 use Rattle.std.proofs.Common.{refl, sym, ap, ◌∙◌, arith}
 use Rattle.std.specs.Prelude.{IsSomeAnd, nat_lt, cond}
 use Rattle.std.specs.FinMap as fin
 use Rattle.std.proofs.lemmas.Bool.{lt-ltb, le-ltb}
 use Rattle.std.proofs.lemmas.List.{take_all}
-use Rattle.pthash.specs.Sizes.{table_size_of}
-use Rattle.build_outcome.specs.Index.{PartData}
-use Rattle.build_outcome.specs.Outcome.{Outcome, repeated, exhausted, built, outcome_of}
+use Rattle.build_outcome.specs.Outcome.{Outcome, outcome_of}
 use Rattle.command_words.specs.Options.{OptionsData}
+use Rattle.hem_build.specs.Rules.{rules_of}
 use Rattle.pth_outside.specs.Files.{FileMap, OfFile}
 use Rattle.pth_outside.specs.Keys.{keys_of, first_too_long, AreTooMany}
 use Rattle.pth_top.specs.declared.answer.Answer.{Answer}
-use Rattle.pth_top.specs.Done.{Done, Gives, done_of, said, with_file}
-use Rattle.pth_top.specs.Pilots.{pilots_result, keys_result, outcome_result, parts_lines, too_long_result, too_many_result, no_keys_result, unless_too_long}
-use Rattle.pth_top.specs.Rules.{rules_of}
-use Rattle.pth_top.specs.Shown.{shown_part, shown_outcome}
-use Rattle.pth_top.specs.Texts.{part_lines, seed_lines}
-
--- no line of a partition depends on its free list
-parts_lines-shown : (alpha number : ℕ) (parts : List PartData) →
-    parts_lines alpha number (map shown_part parts) ≡ parts_lines alpha number parts
-parts_lines-shown alpha number [] = refl
-parts_lines-shown alpha number (part ∷ parts) =
-    ap (λ (more : List ℕ). part_lines number part.n (table_size_of part.n alpha) part.pilots ++ more)
-    (parts_lines-shown alpha (number + 1) parts)
-
--- what is given of an outcome is given of what is shown of it
-outcome_result-shown : (seeds : List ℕ) (outcome : Outcome) →
-    outcome_result seeds (shown_outcome outcome) ≡ outcome_result seeds outcome
-outcome_result-shown seeds (repeated i j) = refl
-outcome_result-shown seeds (exhausted causes) = refl
-outcome_result-shown seeds (built x) =
-    ap (λ (lines : List ℕ). said 0 (seed_lines x.seed x.n ++ lines)) (parts_lines-shown x.shape.alpha 0 x.parts)
+use Rattle.pth_top.specs.Done.{Done, Gives, done_of, with_file}
+use Rattle.pth_top.specs.Pilots.{pilots_result, keys_result, outcome_result, too_long_result, too_many_result, no_keys_result, unless_too_long}
 
 -- a list with no key
 pub no_keys_done : (o : OptionsData) (keys : List (List ℕ)) → length keys ≡ 0 → no_keys_result ≡ keys_result o keys
@@ -41,14 +21,12 @@ no_keys_done o [] none = refl
 no_keys_done o (key ∷ keys) none = absurd (omega arith)
 
 -- a list with a key
-pub keys_done : (o : OptionsData) (keys : List (List ℕ)) (shown : Outcome) → (length keys ≡ 0 → ⊥) →
-    shown ≡ shown_outcome (outcome_of (rules_of o.settings) keys o.settings.seeds) →
-    outcome_result o.settings.seeds shown ≡ keys_result o keys
+pub keys_done : (o : OptionsData) (keys : List (List ℕ)) (outcome : Outcome) → (length keys ≡ 0 → ⊥) →
+    outcome_of (rules_of o.settings) keys o.settings.seeds ≡ outcome →
+    outcome_result o.settings.seeds outcome ≡ keys_result o keys
 unfolding keys_result
-keys_done o [] shown some is = absurd (some refl)
-keys_done o (key ∷ keys) shown some is =
-    ap (outcome_result o.settings.seeds) is
-    ∙ outcome_result-shown o.settings.seeds (outcome_of (rules_of o.settings) (key ∷ keys) o.settings.seeds)
+keys_done o [] outcome some is = absurd (some refl)
+keys_done o (key ∷ keys) outcome some is = ap (outcome_result o.settings.seeds) (sym is)
 
 -- files without a new one are those from before
 pub no_new_file : (old : Option FileMap) → old ≡ option_map (with_file None) old

@@ -1,11 +1,9 @@
 -- Texts of lists, one more line at a time.
-use Rattle.std.proofs.Common.{◌≡◌, ℕ, zero, suc, ◌+◌, ◌<◌, min, List, [], ◌∷◌, ◌++◌, length, take, map, get_or, refl, sym, ap, ◌∙◌, arith}
-use Rattle.std.proofs.lemmas.List.{append_assoc, append-nil, map-append, take_more, length-map, length-take-le}
+use Rattle.std.proofs.Common.{◌≡◌, ℕ, zero, suc, ◌+◌, ◌<◌, min, List, [], ◌∷◌, ◌++◌, length, take, get_or, refl, sym, ap, ◌∙◌, arith}
+use Rattle.std.proofs.lemmas.List.{append_assoc, append-nil, take_more, length-take-le}
 use Rattle.pthash.specs.Sizes.{table_size_of}
 use Rattle.build_outcome.specs.declared.Cause.{Cause}
 use Rattle.build_outcome.specs.Index.{PartData}
-use Rattle.pth_top.specs.declared.partition.Partition.{Partition}
-use Rattle.pth_top.specs.Built.{part_data}
 use Rattle.pth_top.specs.Pilots.{parts_lines}
 use Rattle.pth_top.specs.Texts.{cause_line, cause_lines, part_lines}
 
@@ -46,23 +44,20 @@ parts_lines_push alpha number (p ∷ parts) part =
     (part_lines (number + suc (length parts)) part.n (table_size_of part.n alpha) part.pilots))
 
 -- the text of partitions, one more
-pub parts_text_more : (alpha n size : ℕ) (parts : List Partition) (part : Partition) (start old new pilots : List ℕ) →
-    n < length parts → part ≡ get_or parts n part →
-    size ≡ table_size_of part.n alpha → pilots ≡ part.pilots.items →
-    old ≡ start ++ parts_lines alpha 0 (map part_data (take n parts)) → new ≡ old ++ part_lines n part.n size pilots →
-    new ≡ start ++ parts_lines alpha 0 (map part_data (take (n + 1) parts))
-parts_text_more alpha n size parts part start old new pilots within is room are so_far pushed =
-    let front : List PartData = map part_data (take n parts) in
-    let count : 0 + length front ≡ n = omega (arith, length-map (take n parts) part_data, length-take-le n parts (omega arith)) in
-    let last : get_or parts n part ≡ part = sym is in
-    let grown : map part_data (take (n + 1) parts) ≡ front ++ part_data part ∷ [] =
-    ap (map part_data) (take_more parts n part within ∙ ap (λ (p : Partition). take n parts ++ p ∷ []) last)
-    ∙ map-append part_data (take n parts) (part ∷ []) in
+pub parts_text_more : (alpha n keys size : ℕ) (parts : List PartData) (part : PartData) (start old new pilots : List ℕ) →
+    n < length parts → get_or parts n part ≡ part → keys ≡ part.n → size ≡ table_size_of keys alpha → pilots ≡ part.pilots →
+    old ≡ start ++ parts_lines alpha 0 (take n parts) → new ≡ old ++ part_lines n keys size pilots →
+    new ≡ start ++ parts_lines alpha 0 (take (n + 1) parts)
+parts_text_more alpha n keys size parts part start old new pilots within is counted room are so_far pushed =
+    let front : List PartData = take n parts in
+    let count : 0 + length front ≡ n = omega (arith, length-take-le n parts (omega arith)) in
+    let grown : take (n + 1) parts ≡ front ++ part ∷ [] = take_more parts n part within ∙ ap (λ (p : PartData). front ++ p ∷ []) is in
     pushed
-    ∙ ap (λ (text : List ℕ). text ++ part_lines n part.n size pilots) so_far
-    ∙ append_assoc start (parts_lines alpha 0 front) (part_lines n part.n size pilots)
-    ∙ ap (λ (text : List ℕ). start ++ (parts_lines alpha 0 front ++ text)) (λ i. part_lines (sym count i) part.n (room i) (are i))
-    ∙ ap (λ (text : List ℕ). start ++ text) (sym (parts_lines_push alpha 0 front (part_data part)))
+    ∙ ap (λ (text : List ℕ). text ++ part_lines n keys size pilots) so_far
+    ∙ append_assoc start (parts_lines alpha 0 front) (part_lines n keys size pilots)
+    ∙ ap (λ (text : List ℕ). start ++ (parts_lines alpha 0 front ++ text))
+    (λ i. part_lines (sym count i) (counted i) ((room ∙ ap (λ (k : ℕ). table_size_of k alpha) counted) i) (are i))
+    ∙ ap (λ (text : List ℕ). start ++ text) (sym (parts_lines_push alpha 0 front part))
     ∙ ap (λ (ps : List PartData). start ++ parts_lines alpha 0 ps) (sym grown)
 
 -- the text of causes, one more

@@ -5,10 +5,10 @@ use Rattle.build_outcome.specs.Index.{PartData}
 use Rattle.build_outcome.specs.Outcome.{Outcome, repeated, exhausted, built, outcome_of}
 use Rattle.build_outcome.specs.OutcomeLaws.{IsRepeat}
 use Rattle.command_words.specs.Options.{OptionsData}
+use Rattle.hem_build.specs.Rules.{rules_of}
 use Rattle.pth_outside.specs.Keys.{keys_of, first_too_long}
 use Rattle.pth_top.specs.declared.TheConstants.{LIST_REFUSED, REPEATED_KEY, SEEDS_EXHAUSTED}
 use Rattle.pth_top.specs.Done.{Done, said}
-use Rattle.pth_top.specs.Rules.{rules_of}
 use Rattle.pth_top.specs.Texts.{no_keys, too_long, too_many, repeated_key, seed_lines, part_lines, seeds_exhausted, cause_lines}
 
 -- the lines of partitions, numbered from this one on

@@ -2,12 +2,7 @@
 #![tactic(auto)]
 
 mod answer;
-mod attempt;
-mod outcome;
-mod partition;
-mod partition_pilots;
 mod pilots;
-mod records;
 #[cfg(test)]
 mod tests;
 mod text;

@@ -1,26 +1,27 @@
 // The command `pilots`.
-ghost use Rattle.std.specs.Prelude.{◌≡◌, ◌≢◌, ◌≤◌, length, IfOk, IfSome, IsSomeAnd, IsErrOf, None, option_map};
+ghost use Rattle.std.specs.Prelude.{◌≡◌, ◌≢◌, ◌≤◌, ℕ, List, length, IfOk, IfSome, IsSomeAnd, IsErrOf, None, option_map};
 ghost use Rattle.std.specs.FinMap as map;
-ghost use Rattle.bucket_map.specs.ShapeData.{shape_data};
+ghost use Rattle.build_outcome.specs.Outcome.{built, repeated, exhausted};
 ghost use Rattle.command_words.specs.Options.{options_data};
 ghost use Rattle.pth_outside.specs.Files.{ReadsFiles, contents};
 ghost use Rattle.pth_outside.specs.Keys.{keys_of};
-ghost use Rattle.pth_top.specs.Built.{outcome_data};
 ghost use Rattle.pth_top.specs.Done.{Gives, done_of};
 ghost use Rattle.pth_top.specs.Ending.{IsOfCommand};
 ghost use Rattle.pth_top.specs.Pilots.{HasRepeat, pilots_result, keys_result, outcome_result, too_long_result, too_many_result, no_keys_result};
 
 use crate::answer::{Answer, Stop};
-use crate::outcome::{Outcome, try_seeds};
 use crate::text::{built_text, exhausted_text, repeated_key_text, too_long_text, too_many_text};
 use crate::{LIST_REFUSED, REPEATED_KEY, SEEDS_EXHAUSTED, WORDS_REFUSED};
 use bucket_map::NoMemory;
 use command_words::Options;
+use hem_build::{Built, Causes, Refusal, build_keys};
 use pth_outside::{Files, KeyList, KeysErr, read_keys};
 use std::alloc::{AllocError, Global};
+use std::thread::Threads;
 
-/// Reads a key file, and answers the pilots of its keys or why there are none.
-pub fn pilots<F: Files>(
+/// Reads a key file, builds its index, and answers the pilots of its keys or why there are none.
+pub fn pilots<R: Threads + Sync, F: Files>(
+    rt: &R,
     alloc: Global,
     name: &str,
     options: &Options,
@@ -42,7 +43,7 @@ pub fn pilots<F: Files>(
         (IsErrOf result Stop.Fault) (contents (F.state files.old).told name.now ≡ None) }
 {
     match read_keys(alloc, files, name, options.most) {
-        Ok(keys) => Ok(keys_answer(alloc, &keys, options)?),
+        Ok(keys) => Ok(keys_answer(rt, alloc, &keys, options)?),
         Err(KeysErr::TooLong { line }) => Ok(too_long_answer(alloc, line)?),
         Err(KeysErr::TooMany) => Ok(too_many_answer(alloc, options.most)?),
         Err(KeysErr::Fault) => Err(Stop::Fault),
@@ -84,7 +85,12 @@ fn no_keys_answer(alloc: Global) -> Result<Answer, AllocError>
 }
 
 // The answer on the keys of a file.
-fn keys_answer(alloc: Global, keys: &KeyList, options: &Options) -> Result<Answer, NoMemory>
+fn keys_answer<R: Threads + Sync>(
+    rt: &R,
+    alloc: Global,
+    keys: &KeyList,
+    options: &Options,
+) -> Result<Answer, NoMemory>
     requires { length keys.now ≤ options.now.most }
     ensures done { IfOk result (λ answer.
         done_of answer ≡ keys_result (options_data options.now) keys.now) }
@@ -95,41 +101,45 @@ fn keys_answer(alloc: Global, keys: &KeyList, options: &Options) -> Result<Answe
     if keys.len() == 0 {
         return Ok(no_keys_answer(alloc)?);
     }
-    let outcome = try_seeds(alloc, keys, &options.settings)?;
-    Ok(outcome_answer(alloc, &outcome, options)?)
+    match build_keys(rt, alloc, keys, &options.settings) {
+        Ok(built) => Ok(built_answer(alloc, &built)?),
+        Err(Refusal::RepeatedKey { first, second }) => Ok(repeated_answer(alloc, first, second)?),
+        Err(Refusal::SeedsExhausted { causes }) => {
+            Ok(exhausted_answer(alloc, &options.settings.seeds, &causes)?)
+        }
+        Err(Refusal::NoMemory) => Err(NoMemory),
+    }
 }
 
-// The answer on an outcome.
-fn outcome_answer(alloc: Global, outcome: &Outcome, options: &Options) -> Result<Answer, AllocError>
-    ensures done { IfOk result (λ answer. done_of answer
-        ≡ outcome_result options.now.settings.seeds.items
-        (outcome_data (shape_data options.now.settings.shape) outcome.now)) }
-    ensures own { IfOk result (λ answer. IsOfCommand answer.status) }
-    ensures statuses { IfOk result (λ answer. answer.status ≤ SEEDS_EXHAUSTED) }
-    ensures not_refused { IfOk result (λ answer. answer.status ≢ WORDS_REFUSED) }
+// The answer on an index that was built.
+fn built_answer(alloc: Global, index: &Built) -> Result<Answer, AllocError>
+    ensures { (seeds : List ℕ) →
+        IfOk result (λ answer. done_of answer ≡ outcome_result seeds (built index.now)) }
 {
-    match outcome {
-        Outcome::Built {
-            seed,
-            n,
-            partitions,
-        } => {
-            let text = built_text(alloc, *seed, *n, partitions, options.settings.shape)?;
-            Ok(Answer { status: 0, text })
-        }
-        Outcome::Repeated { first, second } => {
-            let text = repeated_key_text(alloc, *first, *second)?;
-            Ok(Answer {
-                status: REPEATED_KEY,
-                text,
-            })
-        }
-        Outcome::Exhausted { causes } => {
-            let text = exhausted_text(alloc, &options.settings.seeds, causes)?;
-            Ok(Answer {
-                status: SEEDS_EXHAUSTED,
-                text,
-            })
-        }
-    }
+    let text = built_text(alloc, index)?;
+    Ok(Answer { status: 0, text })
+}
+
+// The refusal of a list with the same key at two places.
+fn repeated_answer(alloc: Global, first: u64, second: u64) -> Result<Answer, AllocError>
+    ensures { (seeds : List ℕ) →
+        IfOk result (λ answer. done_of answer ≡ outcome_result seeds (repeated first second)) }
+{
+    let text = repeated_key_text(alloc, first, second)?;
+    Ok(Answer {
+        status: REPEATED_KEY,
+        text,
+    })
+}
+
+// The refusal of a list for which no seed succeeds.
+fn exhausted_answer(alloc: Global, seeds: &[u64], causes: &Causes) -> Result<Answer, AllocError>
+    ensures { IfOk result (λ answer.
+        done_of answer ≡ outcome_result seeds.now (exhausted causes.now.list.items)) }
+{
+    let text = exhausted_text(alloc, seeds, &causes.list)?;
+    Ok(Answer {
+        status: SEEDS_EXHAUSTED,
+        text,
+    })
 }

@@ -4,6 +4,7 @@ use pth_outside::{MemFiles, MemSink};
 use std::fmt::Write;
 use std::process::Abort;
 use std::test::Fail;
+use std::thread::Threads;
 
 // The words, each as a text of its own.
 fn texts<R: AllocGlobal>(rt: &R, words: &[&str]) -> Result<Vec<String>, Fail> {
@@ -31,7 +32,7 @@ fn numbered<R: AllocGlobal>(rt: &R, count: u64) -> Result<String, Fail> {
 }
 
 // Runs the words over a file K of these bytes, and looks at the status and the text.
-fn runs<R: Abort + AllocGlobal>(
+fn runs<R: Abort + AllocGlobal + Threads + Sync>(
     rt: &R,
     words: &[&str],
     keys: &[u8],

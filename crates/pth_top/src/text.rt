@@ -1,14 +1,12 @@
 // The texts that commands print, appended piece by piece.
-ghost use Rattle.std.specs.Prelude.{◌≡◌, ◌+◌, ◌++◌, List, OnOk, IfOk, string_bytes, decimal, map};
-ghost use Rattle.pth_top.specs.Built.{part_data};
+ghost use Rattle.std.specs.Prelude.{◌≡◌, ◌+◌, ◌++◌, ◌≤◌, List, OnOk, IfOk, string_bytes, decimal};
+ghost use Rattle.pthash.specs.declared.TheConstants.{MIN_ALPHA, MAX_ALPHA};
 ghost use Rattle.pth_top.specs.Pilots.{parts_lines};
 ghost use Rattle.pth_top.specs.Texts.{cause_line, cause_lines, kind_name, part_lines, refused_word, repeated_key, same_hash_line, seed_lines, seeds_exhausted, spaced, stuck_line, too_long, too_many};
 
-use crate::partition::Partition;
 use bucket_map::table_size;
-use build_outcome::Cause;
 use command_words::{WordFault, kinds};
-use settings::Shape;
+use hem_build::{Built, Cause, Part};
 use std::alloc::{AllocError, Global};
 use std::fmt::Write;
 
@@ -119,35 +117,29 @@ fn push_causes(text: &mut String, seeds: &[u64], causes: &[Cause]) -> Result<(),
 }
 
 // Appends the lines of all partitions.
-fn push_partitions(
-    text: &mut String,
-    shape: Shape,
-    partitions: &[Partition],
-) -> Result<(), AllocError>
-    ensures { OnOk result (string_bytes text.new
-        ≡ string_bytes text.old ++ parts_lines shape.alpha 0 (map part_data partitions.now)) }
+fn push_partitions(text: &mut String, alpha: u32, parts: &[Part]) -> Result<(), AllocError>
+    requires low { MIN_ALPHA ≤ alpha }
+    requires high { alpha ≤ MAX_ALPHA }
+    ensures { OnOk result
+        (string_bytes text.new ≡ string_bytes text.old ++ parts_lines alpha 0 parts.now) }
 {
-    for (number, partition) in partitions.iter().enumerate() {
-        let size = table_size(partition.n, shape.alpha);
-        push_partition(text, number as u64, partition.n, size, &partition.pilots)?;
+    for number in 0..parts.len() {
+        let part = &parts[number];
+        let keys = part.n;
+        let size = table_size(keys, alpha);
+        push_partition(text, number as u64, keys, size, &part.pilots)?;
     }
     Ok(())
 }
 
-/// The pilots of n keys, partition by partition.
-pub fn built_text(
-    alloc: Global,
-    seed: u64,
-    n: u64,
-    partitions: &[Partition],
-    shape: Shape,
-) -> Result<String, AllocError>
-    ensures { IfOk result (λ text. string_bytes text
-        ≡ seed_lines seed n ++ parts_lines shape.alpha 0 (map part_data partitions.now)) }
+/// The pilots of an index, partition by partition.
+pub fn built_text(alloc: Global, built: &Built) -> Result<String, AllocError>
+    ensures { IfOk result (λ text. string_bytes text ≡ seed_lines built.now.seed built.now.n
+        ++ parts_lines built.now.shape.alpha 0 built.now.parts) }
 {
     let mut text = String::new(alloc);
-    push_seed(&mut text, seed, n)?;
-    push_partitions(&mut text, shape, partitions)?;
+    push_seed(&mut text, built.seed, built.n)?;
+    push_partitions(&mut text, built.shape.alpha, &built.parts)?;
     Ok(text)
 }
 

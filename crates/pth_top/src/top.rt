@@ -17,11 +17,12 @@ use crate::{FAILED_OUTPUT, FILE_FAULT, NO_MEMORY, REPEATED_KEY, SEEDS_EXHAUSTED,
 use command_words::{Command, WordFault, WordsErr, read_words};
 use pth_outside::{Files, Sink, SinkErr};
 use std::alloc::{AllocError, Global};
+use std::thread::Threads;
 
 /// Does what the words after the program's name ask for, hands the text over to the sink in one piece, and answers the
 /// status.
-pub fn run<R, F: Files, O: Sink>(
-    _rt: &R,
+pub fn run<R: Threads + Sync, F: Files, O: Sink>(
+    rt: &R,
     alloc: Global,
     words: &[String],
     files: &mut F,
@@ -68,7 +69,7 @@ pub fn run<R, F: Files, O: Sink>(
         IfSome (done (words_of words.now) m) (λ d. d.file ≡ None)) →
         (F.state files.new).told ≡ (F.state files.old).told }
 {
-    match answer(alloc, words, files) {
+    match answer(rt, alloc, words, files) {
         Ok(answer) => show(out, answer.status, answer.text.as_bytes()),
         Err(Stop::Fault) => show(out, FILE_FAULT, b"file fault\n"),
         Err(Stop::NoMemory) => show_want(out),
@@ -76,7 +77,12 @@ pub fn run<R, F: Files, O: Sink>(
 }
 
 // What the words ask for.
-fn answer<F: Files>(alloc: Global, words: &[String], files: &mut F) -> Result<Answer, Stop>
+fn answer<R: Threads + Sync, F: Files>(
+    rt: &R,
+    alloc: Global,
+    words: &[String],
+    files: &mut F,
+) -> Result<Answer, Stop>
     ensures done { IfOk result (λ answer. IfSome (F.state files.old).told (λ m.
         IsSomeAnd (done (words_of words.now) m) (λ d.
         Gives d answer (F.state files.old).told (F.state files.new).told))) }
@@ -99,7 +105,7 @@ fn answer<F: Files>(alloc: Global, words: &[String], files: &mut F) -> Result<An
     ensures told { (F.state files.new).told ≡ (F.state files.old).told }
 {
     match read_words(alloc, words) {
-        Ok(Command::Pilots { keys, options }) => pilots(alloc, &keys, &options, files),
+        Ok(Command::Pilots { keys, options }) => pilots(rt, alloc, &keys, &options, files),
         Err(WordsErr::Bad(fault)) => Ok(refusal(alloc, fault)?),
         Err(WordsErr::NoMemory) => Err(Stop::NoMemory),
     }

@@ -1,0 +1,10 @@
+mod Attempts
+mod Clashes
+mod Endings
+mod Grouping
+mod Lookups
+mod Marking
+mod Outcomes
+mod RecordShares
+mod Settled
+mod Starting

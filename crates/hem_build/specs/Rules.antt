@@ -1,0 +1,7 @@
+-- The settings that an outcome depends on.
+use Rattle.settings.specs.Settings.{SettingsData}
+use Rattle.build_outcome.specs.Attempt.{Rules}
+
+-- how partitions are searched is not among them
+abbrev pub rules_of : SettingsData → Rules
+rules_of s = record { shape = s.shape; parts = s.parts; limit = s.limit }

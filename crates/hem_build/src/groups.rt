@@ -1,0 +1,166 @@
+// The partitions of an attempt, built in groups of neighbours at the same time.
+ghost use Rattle.std.specs.Prelude.{◌≡◌, ◌+◌, ◌-◌, ◌≤◌, length, slice_index, IfOk};
+ghost use Rattle.std.specs.Thread.{IsSync};
+ghost use Rattle.pthash.specs.declared.TheConstants.{MAX_PARTITIONS};
+ghost use Rattle.settings.specs.Settings.{settings_data};
+ghost use Rattle.build_outcome.specs.Attempt.{parts_from};
+ghost use Rattle.build_outcome.specs.Ranges.{parts_between};
+ghost use Rattle.hem_build.specs.Answers.{group_data, AreGroupAnswers};
+ghost use Rattle.hem_build.specs.Rules.{rules_of};
+ghost use Rattle.hem_build.specs.declared.workers.TheConstants.{MOST_GROUPS};
+ghost use Rattle.hem_build.specs.Starts.{AreGroupStarts, IsGroupOf, FewKeys};
+
+use crate::workers::{MOST_GROUPS, group_count, how_in_group};
+use bucket_map::{NoMemory, Partitions};
+use part_function::{Part, build_part_with};
+use pilot_search::Scratch;
+use settings::{How, Settings};
+use std::alloc::{AllocError, Global};
+use std::thread;
+use std::thread::Threads;
+
+// The first partition that is stuck, and its bucket that has no pilot.
+#[derive(Clone, Copy, Debug, PartialEq, Eq)]
+pub(crate) struct StuckPart {
+    pub(crate) part: u32,
+    pub(crate) bucket: u64,
+}
+
+// Builds all partitions of n records, or answers the first that is stuck.
+pub(crate) fn build_partitions<R: Threads + Sync>(
+    rt: &R,
+    alloc: Global,
+    partitions: &Partitions,
+    n: u64,
+    seed: u64,
+    settings: &Settings,
+) -> Result<Result<Vec<Part>, StuckPart>, NoMemory>
+    requires some_partition { 1 ≤ length partitions.now }
+    requires few_partitions { length partitions.now ≤ MAX_PARTITIONS }
+    requires few_keys { FewKeys partitions.now }
+    ensures { IfOk result (λ answer. group_data answer
+        ≡ parts_from (rules_of (settings_data settings.now)) seed 0 partitions.now) }
+{
+    let groups = group_count(settings.how, partitions.len());
+    let how = how_in_group(settings.how, groups);
+    let bounds = group_starts(alloc, partitions, n, groups)?;
+    let starts = bounds.as_slice();
+    let answers = thread::map_indices(
+        rt,
+        alloc,
+        groups as usize,
+        &|group: usize| -> Result<Result<Vec<Part>, StuckPart>, NoMemory>
+            requires { IsSync R.row × IsGroupOf partitions.now starts.now group settings.now.how how }
+            ensures { IfOk result (λ answer. group_data answer
+                ≡ parts_between (rules_of (settings_data settings.entry.now)) seed partitions.entry.now
+                (slice_index starts.entry.now group) (slice_index starts.entry.now (group + 1))) }
+        { build_group(rt, alloc, partitions, starts, group, seed, settings, how) },
+    )?;
+    join_groups(alloc, partitions, starts, seed, settings, answers)
+}
+
+// Where groups of neighbours with about as many records each begin; one more start is the end.
+fn group_starts(
+    alloc: Global,
+    partitions: &Partitions,
+    n: u64,
+    groups: u64,
+) -> Result<Vec<u64>, AllocError>
+    requires some { 1 ≤ groups }
+    requires most { groups ≤ MOST_GROUPS }
+    ensures { IfOk result (λ v. AreGroupStarts groups (length partitions.now) v.items) }
+{
+    let wanted = n / groups;
+    let mut starts = Vec::with_capacity(alloc, groups as usize + 1)?;
+    let mut start = 0;
+    for _ in 0..groups {
+        starts.push(start)?;
+        start = group_end(partitions, start, wanted);
+    }
+    starts.push(partitions.len())?;
+    Ok(starts)
+}
+
+// Where a group ends that has about so many records. A partition belongs to it if less than half would be too much.
+fn group_end(partitions: &Partitions, start: u64, wanted: u64) -> u64
+    requires { start ≤ length partitions.now }
+    ensures low { start ≤ result }
+    ensures high { result ≤ length partitions.now }
+{
+    let mut counted: u64 = 0;
+    for number in start..partitions.len() {
+        let more = partitions.records(number).len() as u64;
+        if counted.saturating_add(more / 2) > wanted {
+            return number;
+        }
+        counted = counted.saturating_add(more);
+    }
+    partitions.len()
+}
+
+// Builds the partitions of a group one after another, up to the first that is stuck.
+fn build_group<R: Threads + Sync>(
+    rt: &R,
+    alloc: Global,
+    partitions: &Partitions,
+    starts: &[u64],
+    group: usize,
+    seed: u64,
+    settings: &Settings,
+    how: How,
+) -> Result<Result<Vec<Part>, StuckPart>, NoMemory>
+    requires { IsGroupOf partitions.now starts.now group settings.now.how how }
+    ensures { IfOk result (λ answer. group_data answer
+        ≡ parts_between (rules_of (settings_data settings.now)) seed partitions.now
+        (slice_index starts.now group) (slice_index starts.now (group + 1))) }
+{
+    let mut built = Vec::new(alloc);
+    let mut scratch = Scratch::with(alloc, 0)?;
+    for number in starts[group]..starts[group + 1] {
+        let records = partitions.records(number);
+        match build_part_with(
+            rt,
+            alloc,
+            records,
+            settings.shape,
+            seed,
+            settings.limit,
+            how,
+            &mut scratch,
+        )? {
+            Ok(part) => built.push(part)?,
+            Err(stuck) => {
+                return Ok(Err(StuckPart {
+                    part: number as u32,
+                    bucket: stuck.bucket,
+                }));
+            }
+        }
+    }
+    Ok(Ok(built))
+}
+
+// The partitions of all groups, or the first that is stuck.
+fn join_groups(
+    alloc: Global,
+    partitions: &Partitions,
+    starts: &[u64],
+    seed: u64,
+    settings: &Settings,
+    answers: Vec<Result<Result<Vec<Part>, StuckPart>, NoMemory>>,
+) -> Result<Result<Vec<Part>, StuckPart>, NoMemory>
+    requires starts { AreGroupStarts (length starts.now - 1) (length partitions.now) starts.now }
+    requires answers { AreGroupAnswers (rules_of (settings_data settings.now)) seed partitions.now
+        starts.now 0 answers.items }
+    ensures { IfOk result (λ answer. group_data answer
+        ≡ parts_from (rules_of (settings_data settings.now)) seed 0 partitions.now) }
+{
+    let mut all = Vec::new(alloc);
+    for answer in answers {
+        match answer? {
+            Ok(mut parts) => all.append(&mut parts)?,
+            Err(stuck) => return Ok(Err(stuck)),
+        }
+    }
+    Ok(Ok(all))
+}

@@ -1,0 +1,1 @@
+// Whole builds by each kind of search, beside those of an independent program.

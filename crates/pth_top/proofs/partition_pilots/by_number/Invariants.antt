@@ -1,7 +1,0 @@
-use Rattle.std.proofs.Common.{◌≡◌, drop}
-use Rattle.pthash.specs.ByBucket.{pilots_by_number}
-use Rattle.pth_top.proofs.partition_pilots.by_number.Given as goal
-
-abbrev pub invariant-loop-rank : goal.invariant-loop-rank
-invariant-loop-rank l =
-    l.by_number.items ≡ pilots_by_number (drop l.rank l.buckets) (drop l.rank l.pilots) l.m
