@@ -1,6 +1,7 @@
 -- Faults as what a reading ends with, and the steps of a reading in turn.
-use Rattle.std.specs.Prelude.{◌≡◌, Result, Ok, Err}
+use Rattle.std.specs.Prelude.{ℕ, ◌≡◌, nat_lt, List, length, Result, Ok, Err, if◌then◌else◌}
 use Rattle.elias_fano.specs.declared.fault.FormFault.{FormFault}
+use Rattle.elias_fano.specs.Values.{below_len}
 use Rattle.elias_fano.specs.declared.fault.ReadErr.{ReadErr}
 use Rattle.elias_fano.specs.declared.fault.ReadErr.TheVariants as errors
 use Rattle.index_text.specs.declared.fault.IndexFault.{IndexFault}
@@ -16,6 +17,11 @@ abbrev pub ◌>>=◌ : {A B : Type 0} → Result A IndexFault → (A → Result 
 abbrev pub formed : {A : Type 0} → Result A FormFault → Result A IndexFault
 formed (Ok x) = Ok x
 formed (Err f) = Err (faults.Form f)
+
+-- a list all of whose values are below a bound; else the fault of the first that isn't
+abbrev pub all_below : ℕ → (ℕ → IndexFault) → (List ℕ × List ℕ) → Result (List ℕ × List ℕ) IndexFault
+all_below bound fault list =
+    if nat_lt (below_len bound list.0) (length list.0) then Err (fault (below_len bound list.0)) else Ok list
 
 -- the fault of a list, unless memory ran out
 abbrev pub fault_of_list : ReadErr → IndexFault

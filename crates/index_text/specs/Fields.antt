@@ -7,7 +7,6 @@ use Rattle.pthash.specs.declared.Map.{Map}
 use Rattle.pthash.specs.declared.Map.TheVariants.{Skewed, Uniform}
 use Rattle.pthash.specs.Shapes.{ShapeData}
 use Rattle.elias_fano.specs.Reading.{words_in}
-use Rattle.elias_fano.specs.Values.{below_len}
 use Rattle.pilot_codecs.specs.declared.code.Code.{Code}
 use Rattle.pilot_codecs.specs.declared.code.Code.TheVariants as codes
 use Rattle.pilot_codecs.specs.declared.code.Encoding.{Encoding}
@@ -17,7 +16,7 @@ use Rattle.index_text.specs.declared.fault.IndexFault.TheVariants as faults
 use Rattle.index_text.specs.declared.head.HeadFields.{HeadFields}
 use Rattle.index_text.specs.declared.head.TheConstants.{MAGIC, UNMARKED, MARKED, KEYS_AT, ALPHA_AT, BUCKETS_AT, PARTITIONS_AT}
 use Rattle.index_text.specs.declared.head.TheConstants.{MARK_LEN, DIGEST_LEN, MIN_BYTES, MAX_BYTES}
-use Rattle.index_text.specs.Faults.{◌>>=◌}
+use Rattle.index_text.specs.Faults.{◌>>=◌, all_below}
 use Rattle.index_text.specs.Text.{digest_of}
 
 -- the number at a place
@@ -104,11 +103,12 @@ mark_at version bytes =
     else (if nat_lt (length bytes) MARK_LEN then Err faults.Short
     else Ok (Some (record { sum = word_at 0 bytes; xor = word_at 8 bytes }), drop MARK_LEN bytes))
 
+-- numbers that add up to n
+abbrev pub add_up : ℕ → (List ℕ × List ℕ) → Result (List ℕ × List ℕ) IndexFault
+add_up n list = if sum list.0 == n then Ok list else Err (faults.Count n (sum list.0))
+
 -- how many keys each of so many partitions has, n in all, and the bytes after them; places are counted up to a total
 unfoldable pub counts_at : ℕ → ℕ → ℕ → List ℕ → Result (List ℕ × List ℕ) IndexFault
 counts_at total n parts bytes =
-    let counts = words_in parts bytes in
-    let few = below_len (MAX_KEYS + 1) counts in
     if nat_lt (length bytes) (8 * parts) then Err faults.Short
-    else (if nat_lt few parts then Err (faults.Field (total - length bytes + 8 * few))
-    else (if not (sum counts == n) then Err (faults.Count n (sum counts)) else Ok (counts, drop (8 * parts) bytes)))
+    else (all_below (MAX_KEYS + 1) (λ i. faults.Field (total - length bytes + 8 * i)) (words_in parts bytes, drop (8 * parts) bytes) >>= add_up n)

@@ -1,21 +1,15 @@
 -- Reading the partitions, with the first fault that is met.
-use Rattle.std.specs.Prelude.{ℕ, ◌+◌, ◌-◌, nat_lt, ◌==◌, List, [], ◌∷◌, length, Result, Ok, Err, if◌then◌else◌}
+use Rattle.std.specs.Prelude.{ℕ, ◌+◌, ◌-◌, ◌==◌, List, [], ◌∷◌, length, Result, Ok, Err, if◌then◌else◌}
 use Rattle.pthash.specs.declared.TheConstants.{MAX_PILOTS}
 use Rattle.pthash.specs.Shapes.{ShapeData}
 use Rattle.pthash.specs.Sizes.{table_size_of, bucket_count_of}
 use Rattle.elias_fano.specs.Reading.{list_at}
-use Rattle.elias_fano.specs.Values.{below_len}
 use Rattle.pilot_codecs.specs.declared.code.Encoding.{Encoding}
 use Rattle.pilot_codecs.specs.Encoded.{pair_at}
 use Rattle.build_outcome.specs.Index.{PartData}
 use Rattle.index_text.specs.declared.fault.IndexFault.{IndexFault}
 use Rattle.index_text.specs.declared.fault.IndexFault.TheVariants as faults
-use Rattle.index_text.specs.Faults.{◌>>=◌, formed}
-
--- a list all of whose values are below a bound; else the fault of the first that isn't
-abbrev pub all_below : ℕ → (ℕ → IndexFault) → (List ℕ × List ℕ) → Result (List ℕ × List ℕ) IndexFault
-all_below bound fault list =
-    if nat_lt (below_len bound list.0) (length list.0) then Err (fault (below_len bound list.0)) else Ok list
+use Rattle.index_text.specs.Faults.{◌>>=◌, formed, all_below}
 
 -- the pilots of the partition with a number, of so many buckets, and the bytes after them
 unfoldable pub pilots_at : ℕ → Encoding → ℕ → ℕ → List ℕ → Result (List ℕ × List ℕ) IndexFault

@@ -11,6 +11,7 @@ use Rattle.pilot_codecs.specs.declared.code.Encoding.{Encoding}
 use Rattle.pilot_codecs.specs.Spelling.{pair_text}
 use Rattle.build_outcome.specs.Index.{PartData, KeyMarkData, IndexData}
 use Rattle.build_outcome.specs.Validity.{IsValidIndex}
+use Rattle.index_text.specs.declared.head.HeadFields.{HeadFields}
 use Rattle.index_text.specs.declared.head.TheConstants.{MAGIC, UNMARKED, MARKED, MAX_BYTES}
 
 -- the number of a code
@@ -35,13 +36,25 @@ abbrev pub version_of : Option KeyMarkData → ℕ
 version_of None = UNMARKED
 version_of (Some mark) = MARKED
 
--- the first eight bytes
-abbrev pub sign_text : IndexData → Encoding → List ℕ
-sign_text x enc = MAGIC ++ version_of x.mark ∷ code_number enc.front ∷ back_number enc.back ∷ map_number x.shape.map ∷ []
+-- the fields of an index under an encoding
+abbrev pub fields_of : IndexData → Encoding → HeadFields
+fields_of x enc = record {
+  version = version_of x.mark;
+  front = code_number enc.front;
+  back = back_number enc.back;
+  spread = map_number x.shape.map;
+  seed = x.seed;
+  n = x.n;
+  alpha = x.shape.alpha;
+  c = x.shape.c;
+  parts = length x.parts;
+}
 
--- the numbers behind them
-abbrev pub head_numbers : IndexData → List ℕ
-head_numbers x = x.seed ∷ x.n ∷ x.shape.alpha ∷ x.shape.c ∷ length x.parts ∷ []
+-- the bytes of the fields
+abbrev pub head_text : HeadFields → List ℕ
+head_text head =
+    MAGIC ++ head.version ∷ head.front ∷ head.back ∷ head.spread ∷ []
+    ++ flat_map number (head.seed ∷ head.n ∷ head.alpha ∷ head.c ∷ head.parts ∷ [])
 
 -- the numbers of a mark, if there is one
 abbrev pub mark_numbers : Option KeyMarkData → List ℕ
@@ -64,8 +77,8 @@ parts_text enc parts = flat_map (part_text enc) parts
 -- all bytes but the digest
 unfoldable pub body_text : IndexData → Encoding → List ℕ
 body_text x enc =
-    sign_text x enc ++ (flat_map number (head_numbers x)
-    ++ (flat_map number (mark_numbers x.mark) ++ (flat_map number (key_counts x.parts) ++ parts_text enc x.parts)))
+    head_text (fields_of x enc)
+    ++ (flat_map number (mark_numbers x.mark) ++ (flat_map number (key_counts x.parts) ++ parts_text enc x.parts))
 
 -- the digest of bytes
 abbrev pub digest_of : List ℕ → ℕ
