@@ -22,19 +22,19 @@ pub const BUCKETS_AT: u64 = 32;
 pub const PARTITIONS_AT: u64 = 40;
 
 /// How many bytes the fields take that both versions have.
-pub const HEAD_LEN: u64 = 48;
+pub const HEAD_LEN: usize = 48;
 
 /// How many bytes a mark takes.
-pub const MARK_LEN: u64 = 16;
+pub const MARK_LEN: usize = 16;
 
 /// How many bytes the digest takes.
-pub const DIGEST_LEN: u64 = 8;
+pub const DIGEST_LEN: usize = 8;
 
 /// The fewest bytes that are looked at.
-pub const MIN_BYTES: u64 = 56;
+pub const MIN_BYTES: usize = 56;
 
 /// The most bytes of an index.
-pub const MAX_BYTES: u64 = 68_719_476_736;
+pub const MAX_BYTES: usize = 68_719_476_736;
 
 /// The fields as they stand in the bytes, whether or not they are in their ranges.
 #[derive(Clone, Copy, Debug, PartialEq, Eq)]
