@@ -2,4 +2,5 @@ pub mod Totals
 pub mod Spreading
 pub mod Counting
 pub mod Faults
+pub mod ListSteps
 pub mod PartitionSteps

@@ -44,5 +44,5 @@ pub record IsHeld (held : Held) : Type 0 where
 -- a valid index is kept, and its file has so many bytes
 pub record IsKept (held : Held) (bytes : ℕ) : Type 0 where
   pub valid : IsValidIndex (held_data held)
-  pub held : IsHeld held
+  pub beside : IsHeld held
   pub bytes_are : bytes ≡ length (index_text (held_data held) held.enc)

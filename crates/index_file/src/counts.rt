@@ -11,24 +11,32 @@ use bucket_map::MAX_KEYS;
 use build_outcome::KeyMark;
 use elias_fano::append_words;
 use index_text::{IndexFault, MARK_LEN, MARKED};
+use pilot_codecs::NoMemory;
 use std::alloc::Global;
 
-// The mark, if the version has one, and the bytes after it.
+// The mark at a place, if the version has one, and the place after it.
 #[tactic(auto, unfolding(index_text::specs::Fields::mark_at))]
-pub(crate) fn mark_of(version: u8, bytes: &[u8]) -> Result<(Option<KeyMark>, &[u8]), IndexFault>
-    ensures { Gives (λ x. (option_map key_mark_data x.0, x.1.now)) result (mark_at version bytes.now) }
+pub(crate) fn mark_of(
+    version: u8,
+    bytes: &[u8],
+    at: usize,
+) -> Result<(Option<KeyMark>, usize), IndexFault>
+    requires { at ≤ length bytes.now }
+    ensures value { Gives (λ x. (option_map key_mark_data x.0, drop x.1 bytes.now)) result
+        (mark_at version (drop at bytes.now)) }
+    ensures within { IfOk result (λ x. x.1 ≤ length bytes.now) }
 {
     if version != MARKED {
-        return Ok((None, bytes));
+        return Ok((None, at));
     }
-    if bytes.len() < MARK_LEN {
+    if bytes.len() - at < MARK_LEN {
         return Err(IndexFault::Short);
     }
     let mark = KeyMark {
-        sum: word_in(bytes, 0),
-        xor: word_in(bytes, 8),
+        sum: word_in(bytes, at),
+        xor: word_in(bytes, at + 8),
     };
-    Ok((Some(mark), &bytes[MARK_LEN..]))
+    Ok((Some(mark), at + MARK_LEN))
 }
 
 // How many numbers at the front are below a bound.
@@ -56,40 +64,43 @@ fn sum_of(counts: &[u64]) -> u64
     total
 }
 
-// How many keys each of so many partitions has, n in all, and the bytes after them.
-#[tactic(auto, unfolding(index_text::specs::Fields::counts_at))]
+// How many keys each of so many partitions has, n in all, and the place after them.
 pub(crate) fn counts_of(
     alloc: Global,
-    total: u64,
     n: u64,
     parts: u64,
     bytes: &[u8],
-) -> Result<(Vec<u64>, &[u8]), IndexFault>
+    at: usize,
+) -> Result<(Vec<u64>, usize), IndexFault>
     requires few { parts ≤ 2 ^ 20 }
-    requires within { length bytes.now ≤ total }
-    requires most { total ≤ 2 ^ 60 }
-    ensures { Gives (λ x. (x.0.items, x.1.now)) result (counts_at total n parts bytes.now) }
+    requires within { at ≤ length bytes.now }
+    ensures value { Gives (λ x. (x.0.items, drop x.1 bytes.now)) result
+        (counts_at (length bytes.now) n parts (drop at bytes.now)) }
+    ensures count { IfOk result (λ x. length x.0.items ≡ parts) }
+    ensures small { IfOk result (λ x. below_len (MAX_KEYS + 1) x.0.items ≡ length x.0.items) }
+    ensures within { IfOk result (λ x. x.1 ≤ length bytes.now) }
 {
-    if (bytes.len() as u64) < 8 * parts {
+    let rest = &bytes[at..];
+    if (rest.len() as u64) < 8 * parts {
         return Err(IndexFault::Short);
     }
     let mut counts = Vec::new(alloc);
-    append_words(&mut counts, bytes, parts as usize)?;
+    append_words(&mut counts, rest, parts as usize)?;
     let few = below(MAX_KEYS + 1, &counts);
     if (few as u64) < parts {
         return Err(IndexFault::Field {
-            at: total - bytes.len() as u64 + 8 * few as u64,
+            at: (at + 8 * few) as u64,
         });
     }
     let sum = sum_of(&counts);
     if sum != n {
         return Err(IndexFault::Count { kept: n, sum });
     }
-    Ok((counts, &bytes[8 * parts as usize..]))
+    Ok((counts, at + 8 * parts as usize))
 }
 
 // How many keys the partitions before each have.
-pub(crate) fn starts_of(alloc: Global, counts: &[u64]) -> Result<Vec<u64>, IndexFault>
+pub(crate) fn starts_of(alloc: Global, counts: &[u64]) -> Result<Vec<u64>, NoMemory>
     requires few { length counts.now ≤ 2 ^ 20 }
     requires small { below_len (MAX_KEYS + 1) counts.now ≡ length counts.now }
     ensures { IfOk result (λ starts. starts.items ≡ starts_from 0 counts.now) }

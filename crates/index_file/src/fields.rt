@@ -1,5 +1,6 @@
 // The digest and the fields that each index begins with.
-ghost use Rattle.std.specs.Prelude.{◌≡◌, ◌+◌, ◌≤◌, ◌<◌, length, take, drop};
+ghost use Rattle.std.specs.Prelude.{◌≡◌, ◌+◌, ◌≤◌, ◌<◌, length, take, drop, IfOk};
+ghost use Rattle.pthash.specs.declared.TheConstants.{MAX_PARTITIONS};
 ghost use Rattle.bucket_map.specs.ShapeData.{shape_data};
 ghost use Rattle.index_text.specs.Faults.{Gives};
 ghost use Rattle.index_text.specs.Fields.{word_at, head_of, sealed_at, code_with, back_with, map_with, encoding_at, shape_at};
@@ -134,7 +135,9 @@ pub(crate) fn map_of(version: u8, number: u8) -> Result<Map, IndexFault>
 // The shape, if it and the numbers of keys and partitions are in their ranges.
 #[tactic(auto, unfolding(index_text::specs::Fields::shape_at))]
 pub(crate) fn shape_of(map: Map, head: HeadFields) -> Result<Shape, IndexFault>
-    ensures { Gives shape_data result (shape_at map head) }
+    ensures value { Gives shape_data result (shape_at map head) }
+    ensures parts { IfOk result (λ shape. head.parts ≤ MAX_PARTITIONS) }
+    ensures map { IfOk result (λ shape. shape.map ≡ map) }
 {
     if !is_within(1, MAX_KEYS, head.n) {
         return Err(IndexFault::Field { at: KEYS_AT });

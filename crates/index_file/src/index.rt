@@ -6,14 +6,15 @@ ghost use Rattle.build_outcome.specs.Values.{part_size, value_of};
 ghost use Rattle.index_text.specs.Text.{version_of, index_text};
 ghost use Rattle.index_file.specs.Encoded.{EncodedIndex, keys_beside};
 ghost use Rattle.index_file.specs.Held.{encoded_of, parts_data, IsKept};
+ghost use Rattle.index_file.specs.Lists.{part_data};
+ghost use Rattle.pthash.specs.declared.TheConstants.{MAX_POSITIONS, MAX_BUCKETS};
 
 use crate::held::Held;
 use crate::lists::Lists;
-use crate::values::value_in;
-use bucket_map::{Shape, partition_of};
+use crate::values::value_of_key;
+use bucket_map::Shape;
 use build_outcome::KeyMark;
 use index_text::{MARKED, UNMARKED};
-use murmur64::hash_pair;
 use pilot_codecs::Encoding;
 use std::marker::Model;
 
@@ -66,6 +67,29 @@ struct Totals {
     free: u64,
 }
 
+// The sums of one partition.
+fn sums_of(part: &Option<Lists>) -> Totals
+    ensures size { result.size ≡ part_size (part_data part.now) }
+    ensures buckets { result.buckets ≡ length (part_data part.now).pilots }
+    ensures free { result.free ≡ length (part_data part.now).free }
+    ensures few_positions { result.size ≤ MAX_POSITIONS }
+    ensures few_buckets { result.buckets ≤ MAX_BUCKETS }
+    ensures few_free { result.free ≤ MAX_POSITIONS }
+{
+    match part {
+        None => Totals {
+            size: 0,
+            buckets: 0,
+            free: 0,
+        },
+        Some(lists) => Totals {
+            size: lists.size.value(),
+            buckets: lists.pilots.len(),
+            free: lists.free.len(),
+        },
+    }
+}
+
 // The sums over partitions.
 fn add_up(parts: &[Option<Lists>]) -> Totals
     requires { length parts.now ≤ 2 ^ 20 }
@@ -79,11 +103,12 @@ fn add_up(parts: &[Option<Lists>]) -> Totals
         free: 0,
     };
     for i in 0..parts.len() {
-        if let Some(lists) = &parts[i] {
-            sums.size += lists.size.value();
-            sums.buckets += lists.spread.buckets;
-            sums.free += lists.free.len();
-        }
+        let here = sums_of(&parts[i]);
+        sums = Totals {
+            size: sums.size + here.size,
+            buckets: sums.buckets + here.buckets,
+            free: sums.free + here.free,
+        };
     }
     sums
 }
@@ -103,12 +128,7 @@ impl Index {
         ensures none { (result ≡ None) ↔ (keys_beside self.now.index key.now ≡ 0) }
         ensures below { IfSome result (λ value. value < self.now.index.n) }
     {
-        let pair = hash_pair(key, self.held.seed);
-        let q = partition_of(pair.a, pair.b, self.held.parts.len() as u32) as usize;
-        match &self.held.parts[q] {
-            None => None,
-            Some(lists) => Some(self.held.starts[q] + value_in(lists, pair, self.held.seed)),
-        }
+        value_of_key(&self.held, key)
     }
 
     /// What the file says of the index.

@@ -74,6 +74,7 @@ fn free_of(
 }
 
 // The partition with a number, of n keys, and the place after it.
+#[tactic(auto, unfolding(index_text::specs::Lists::partition_at))]
 fn lists_of(
     alloc: Global,
     bytes: &[u8],

@@ -16,6 +16,7 @@ use index_text::{HEAD_LEN, HeadFields, IndexFault};
 use std::alloc::Global;
 
 // The index with these fields, whose bytes before the digest are these.
+#[tactic(auto, unfolding(index_text::specs::Reading::headed_at))]
 fn held_of(alloc: Global, head: HeadFields, body: &[u8]) -> Result<Held, IndexFault>
     requires head { 48 ≤ length body.now }
     requires most { length body.now ≤ 2 ^ 40 }
@@ -26,9 +27,9 @@ fn held_of(alloc: Global, head: HeadFields, body: &[u8]) -> Result<Held, IndexFa
     let enc = encoding_of(head)?;
     let map = map_of(head.version, head.spread)?;
     let shape = shape_of(map, head)?;
-    let (mark, rest) = mark_of(head.version, &body[HEAD_LEN..])?;
-    let (counts, rest) = counts_of(alloc, body.len() as u64, head.n, head.parts, rest)?;
-    let (parts, at) = partitions_of(alloc, body, body.len() - rest.len(), enc, shape, &counts)?;
+    let (mark, at) = mark_of(head.version, body, HEAD_LEN)?;
+    let (counts, at) = counts_of(alloc, head.n, head.parts, body, at)?;
+    let (parts, at) = partitions_of(alloc, body, at, enc, shape, &counts)?;
     if at != body.len() {
         return Err(IndexFault::Long { at: at as u64 });
     }
@@ -43,6 +44,16 @@ fn held_of(alloc: Global, head: HeadFields, body: &[u8]) -> Result<Held, IndexFa
     })
 }
 
+// What an index keeps of its bytes.
+#[tactic(auto, unfolding(index_text::specs::Reading::index_at))]
+fn read_held(alloc: Global, bytes: &[u8]) -> Result<Held, IndexFault>
+    ensures value { Gives (λ held. (held_data held, held.enc)) result (index_at bytes.now) }
+    ensures held { IfOk result (λ held. IsHeld held) }
+{
+    let body = sealed(bytes)?;
+    held_of(alloc, head_fields(body), body)
+}
+
 /// The index that these bytes are, of either version, or their first fault. Nothing grows before it is
 /// known that the bytes are long enough for it.
 pub fn read_index(alloc: Global, bytes: &[u8]) -> Result<Index, IndexFault>
@@ -54,7 +65,8 @@ pub fn read_index(alloc: Global, bytes: &[u8]) -> Result<Index, IndexFault>
     // Which fault it is: the first one.
     ensures exact { Gives (λ index. (index.index, index.enc)) result (index_at bytes.now) }
 {
-    let body = sealed(bytes)?;
-    let held = held_of(alloc, head_fields(body), body)?;
-    Ok(Index::from_held(held, bytes.len() as u64))
+    match read_held(alloc, bytes) {
+        Ok(held) => Ok(Index::from_held(held, bytes.len() as u64)),
+        Err(fault) => Err(fault),
+    }
 }

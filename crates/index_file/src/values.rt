@@ -1,10 +1,14 @@
-// The value of a pair of hashes in a partition.
+// The value of a pair of hashes in a partition, and of a key in an index.
 ghost use Rattle.std.specs.Prelude.{◌≡◌};
-ghost use Rattle.build_outcome.specs.Values.{position_value, pair_position};
+ghost use Rattle.build_outcome.specs.Values.{position_value, pair_position, value_of};
+ghost use Rattle.build_outcome.specs.Validity.{IsValidIndex};
+ghost use Rattle.index_file.specs.Held.{held_data, IsHeld};
 ghost use Rattle.index_file.specs.Lists.{lists_data};
 
+use crate::held::Held;
 use crate::lists::Lists;
-use murmur64::{HashPair, pilot_hash};
+use bucket_map::partition_of;
+use murmur64::{HashPair, hash_pair, pilot_hash};
 
 // The value of a pair of hashes.
 #[inline]
@@ -19,4 +23,19 @@ pub(crate) fn value_in(lists: &Lists, pair: HashPair, seed: u64) -> u64
         return position;
     }
     lists.free.get(position - lists.n).unwrap()
+}
+
+// The value of a key.
+#[inline]
+pub(crate) fn value_of_key(held: &Held, key: &[u8]) -> Option<u64>
+    requires valid { IsValidIndex (held_data held.now) }
+    requires beside { IsHeld held.now }
+    ensures { result ≡ value_of (held_data held.now) key.now }
+{
+    let pair = hash_pair(key, held.seed);
+    let q = partition_of(pair.a, pair.b, held.parts.len() as u32) as usize;
+    match &held.parts[q] {
+        None => None,
+        Some(lists) => Some(held.starts[q] + value_in(lists, pair, held.seed)),
+    }
 }
