@@ -4,3 +4,5 @@ pub mod Counting
 pub mod Faults
 pub mod ListSteps
 pub mod PartitionSteps
+pub mod Whole
+pub mod Looked
