@@ -6,3 +6,4 @@ pub mod ListSteps
 pub mod PartitionSteps
 pub mod Whole
 pub mod Looked
+pub mod Written

@@ -41,7 +41,7 @@ length-starts_from before (n ∷ counts) = omega (arith, length-starts_from (bef
 pub starts_count : (held : Held) → IsHeld held → length held.starts.items ≡ length held.parts.items
 starts_count held beside =
     let parts = parts_data held.parts.items in
-    ap length beside.starts ∙ length-starts_from 0 (key_counts parts) ∙ length-key_counts parts ∙ length-map part_data held.parts.items
+    ap length beside.starts ∙ length-starts_from 0 (key_counts parts) ∙ length-key_counts parts ∙ length-map held.parts.items part_data
 
 -- a sum that is kept
 pub start_is : (held : Held) (q : ℕ) → IsHeld held → q < length held.parts.items →
@@ -49,13 +49,13 @@ pub start_is : (held : Held) (q : ℕ) → IsHeld held → q < length held.parts
 start_is held q beside within =
     let parts = parts_data held.parts.items in
     ap (λ (ks : List ℕ). get_or ks q 0) beside.starts
-    ∙ starts_at 0 parts q (omega (arith, length-map part_data held.parts.items))
+    ∙ starts_at 0 parts q (omega (arith, length-map held.parts.items part_data))
     ∙ Rattle.std.proofs.Common.zero-add (key_count (take q parts))
 
 -- a partition that is kept
 part_is : (parts : List (Option Lists)) (q : ℕ) (part : Option Lists) → q < length parts → get_or parts q None ≡ part →
     part_at (parts_data parts) q ≡ part_data part
-part_is parts q part within is = get_or-map part_data parts q None within ∙ ap part_data is
+part_is parts q part within is = get_or-map parts part_data q None _ within ∙ ap part_data is
 
 -- the position of a pair in a partition with a key is one of its positions
 position-lt : (lists : Lists) (seed a b : ℕ) → pair_position lists.spread.map seed (lists_data lists) a b < part_size (lists_data lists)
@@ -68,7 +68,7 @@ pub value_fits : (held : Held) (q : ℕ) (lists : Lists) (a b : ℕ) → IsValid
     < held.n
 value_fits held q lists a b valid within is =
     let parts = parts_data held.parts.items in
-    let inside : q < length parts = omega (arith, length-map part_data held.parts.items) in
+    let inside : q < length parts = omega (arith, length-map held.parts.items part_data) in
     let part = part_is held.parts.items q (Some lists) within is in
     let shape = (held_data held).shape in
     let here : IsValidPart shape (part_at parts q) = valid.parts q (record { n = 0; pilots = []; free = [] }) inside in
@@ -90,7 +90,7 @@ value_of-none held key q place within is =
     let a = first_hash key held.seed in
     let b = second_hash key held.seed in
     let parts = parts_data held.parts.items in
-    let count : length parts ≡ length held.parts.items = length-map part_data held.parts.items in
+    let count : length parts ≡ length held.parts.items = length-map held.parts.items part_data in
     let there : partition_of a b (length parts) ≡ q = ap (partition_of a b) count ∙ sym place in
     let part : part_at parts q ≡ part_data None = part_is held.parts.items q None within is in
     sym (ap (λ (k : ℕ). option_map (λ v. key_count (take k parts) + v) (part_value held.shape.map held.seed (part_at parts k) a b)) there
@@ -107,7 +107,7 @@ value_of-some held key q lists beside place within is =
     let a = first_hash key held.seed in
     let b = second_hash key held.seed in
     let parts = parts_data held.parts.items in
-    let count : length parts ≡ length held.parts.items = length-map part_data held.parts.items in
+    let count : length parts ≡ length held.parts.items = length-map held.parts.items part_data in
     let there : partition_of a b (length parts) ≡ q = ap (partition_of a b) count ∙ sym place in
     let part : part_at parts q ≡ lists_data lists = part_is held.parts.items q (Some lists) within is in
     let under : IsUnder held.shape.map held.enc (Some lists) =

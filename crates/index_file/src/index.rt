@@ -1,10 +1,11 @@
 // An index: lookups, and what its file says of it.
-ghost use Rattle.std.specs.Prelude.{◌≡◌, ◌<◌, ◌≤◌, ◌^◌, ◌↔◌, length, sum_by, Some, None, option_map, IfSome};
+ghost use Rattle.std.specs.Prelude.{◌≡◌, ◌<◌, ◌≤◌, ◌^◌, ◌↔◌, ◌++◌, length, take, sum_by, Some, None, option_map, IfSome, OnOk};
 ghost use Rattle.bucket_map.specs.ShapeData.{shape_data};
 ghost use Rattle.build_outcome.specs.KeyMarkData.{key_mark_data};
 ghost use Rattle.build_outcome.specs.Values.{part_size, value_of};
 ghost use Rattle.index_text.specs.Text.{version_of, index_text};
-ghost use Rattle.index_file.specs.Encoded.{EncodedIndex, keys_beside};
+ghost use Rattle.build_outcome.specs.Validity.{IsValidIndex};
+ghost use Rattle.index_file.specs.Encoded.{EncodedIndex, keys_beside, marked};
 ghost use Rattle.index_file.specs.Held.{encoded_of, parts_data, IsKept};
 ghost use Rattle.index_file.specs.Lists.{part_data};
 ghost use Rattle.pthash.specs.declared.TheConstants.{MAX_POSITIONS, MAX_BUCKETS};
@@ -12,10 +13,11 @@ ghost use Rattle.pthash.specs.declared.TheConstants.{MAX_POSITIONS, MAX_BUCKETS}
 use crate::held::Held;
 use crate::lists::Lists;
 use crate::values::value_of_key;
+use crate::writing::put_file;
 use bucket_map::Shape;
 use build_outcome::KeyMark;
 use index_text::{MARKED, UNMARKED};
-use pilot_codecs::Encoding;
+use pilot_codecs::{Encoding, NoMemory};
 use std::marker::Model;
 
 /// An index that was read: a contract sees the index with its encoding.
@@ -119,6 +121,16 @@ impl Index {
         ensures { result ≡ encoded_of held }
     {
         Self { held, bytes }
+    }
+
+    // Appends the file with a mark; on want of memory a part of it.
+    pub(crate) fn put(&self, mark: KeyMark, out: &mut Vec<u8>) -> Result<(), NoMemory>
+        ensures ok { OnOk result (out.new.items ≡ out.old.items
+            ++ index_text (marked self.now.index (key_mark_data mark)) self.now.enc) }
+        ensures valid { IsValidIndex self.now.index }
+        ensures kept { take (length out.old.items) out.new.items ≡ out.old.items }
+    {
+        put_file(out, &self.held, mark)
     }
 
     /// The number of a key: for each key of the list that the index was built of one of its own; for a

@@ -10,9 +10,11 @@ mod partitions;
 mod reading;
 mod spread;
 mod values;
+mod writing;
 
 pub use crate::index::{Head, Index};
 pub use crate::reading::read_index;
+pub use crate::writing::write_marked;
 pub use build_outcome::KeyMark;
 pub use index_text::{IndexFault, MAX_BYTES};
 pub use pilot_codecs::{Code, Encoding, NoMemory};
