@@ -3,6 +3,7 @@ pub mod ClashLaws
 pub mod FreeList
 pub mod Index
 pub mod Mark
+pub mod KeyMarkData
 pub mod Values
 pub mod Validity
 pub mod FreeListLaws
@@ -19,3 +20,4 @@ pub mod IndexLaws
 pub mod ValidityLaws
 pub mod OutcomeLaws
 pub mod BuiltLaws
+pub mod ValidValueLaws

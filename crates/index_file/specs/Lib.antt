@@ -1,0 +1,6 @@
+pub mod Spread
+pub mod Lists
+pub mod Starts
+pub mod Encoded
+pub mod Held
+pub mod Pieces

@@ -1,0 +1,18 @@
+// What an index keeps.
+use crate::lists::Lists;
+use bucket_map::Shape;
+use build_outcome::KeyMark;
+use pilot_codecs::Encoding;
+
+// What an index keeps of its bytes: the lists of each partition that has a key, and how many keys the
+// partitions before each have.
+#[derive(Drop)]
+pub(crate) struct Held {
+    pub(crate) seed: u64,
+    pub(crate) n: u64,
+    pub(crate) shape: Shape,
+    pub(crate) enc: Encoding,
+    pub(crate) mark: Option<KeyMark>,
+    pub(crate) parts: Vec<Option<Lists>>,
+    pub(crate) starts: Vec<u64>,
+}

@@ -1,0 +1,20 @@
+//! Index files: written, read with their first fault, and looked up.
+#![tactic(auto)]
+
+mod counts;
+mod fields;
+mod held;
+mod index;
+mod lists;
+mod partitions;
+mod reading;
+mod spread;
+mod values;
+mod writing;
+
+pub use crate::index::{Head, Index};
+pub use crate::reading::read_index;
+pub use crate::writing::write_marked;
+pub use build_outcome::KeyMark;
+pub use index_text::{IndexFault, MAX_BYTES};
+pub use pilot_codecs::{Code, Encoding, NoMemory};

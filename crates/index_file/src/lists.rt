@@ -1,0 +1,22 @@
+// The lists of a partition that has a key.
+ghost use Rattle.std.specs.Prelude.{◌≡◌, ◌+◌, ◌≤◌, length};
+ghost use Rattle.pthash.specs.declared.TheConstants.{MAX_POSITIONS};
+
+use crate::spread::Spread;
+use divisor::Divisor;
+use elias_fano::EliasFano;
+use pilot_codecs::Pilots;
+
+// The lists of a partition.
+#[derive(Drop)]
+pub(crate) struct Lists {
+    pub(crate) n: u64,
+    pub(crate) pilots: Pilots,
+    pub(crate) free: EliasFano,
+    pub(crate) spread: Spread,
+    pub(crate) size: Divisor,
+    pub(crate) ghost some: { 1 ≤ n },
+    pub(crate) ghost buckets: { spread.buckets ≡ length pilots.values },
+    pub(crate) ghost positions: { size ≡ n + length free },
+    pub(crate) ghost few_positions: { size ≤ MAX_POSITIONS },
+}

@@ -1,0 +1,5 @@
+pub mod Faults
+pub mod Text
+pub mod Fields
+pub mod Lists
+pub mod Reading
