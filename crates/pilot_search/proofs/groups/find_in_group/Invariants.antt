@@ -1,4 +1,4 @@
-use Rattle.std.proofs.Common.{[], ◌-◌, ◌<◌, ◌≤◌}
+use Rattle.std.proofs.Common.{[], ◌-◌, ◌<◌}
 use Rattle.std.specs.FinSet.{contains}
 use Rattle.pthash.specs.Search.{pilot_fits}
 use Rattle.pthash.specs.Least.{FailsBelow}

@@ -1,4 +1,4 @@
-use Rattle.std.proofs.Common.{ℕ, ◌<◌, Bool, arith}
+use Rattle.std.proofs.Common.{ℕ, Bool, arith}
 use Rattle.std.specs.FinSet.{contains}
 use Rattle.pthash.specs.Search.{pilot_fits}
 use Rattle.pilot_search.proofs.FlagLemmas.{either_flags, member_flags}
