@@ -5,3 +5,4 @@ pub mod ClaimKept
 pub mod LoadKept
 pub mod CommitKept
 pub mod TurnKept
+pub mod Seats

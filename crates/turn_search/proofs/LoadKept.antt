@@ -44,15 +44,9 @@ taken_is plan words views r p zero below =
 
 -- a holder of the rule has the turn of the rank that it claims
 pub has_turn : (plan : SearchPlan) (words : List ℕ) (views : List View) (r : Kept plan words views) (view : View) → Knows plan words r.state r.bits view → HasTurnIfHeld view
-has_turn plan words views r view k held rank claims =
+has_turn plan words views r view k held =
     let h : Holder plan words r.state r.bits view = k.holder held in
-    let same : turn_in words ≡ rank = same_rank view.claim (turn_in words) rank h.claims_turn claims in
-    record {
-      claims = claims;
-      state = r.state;
-      reached = rw k.same_plan (ap (prefix_of plan) (sym same) ∙ r.reached);
-      sees = h.sees;
-    }
+    (turn_in words, record { claims = h.claims_turn; state = r.state; reached = rw k.same_plan r.reached; sees = h.sees })
 
 module _ (plan : SearchPlan) (words : List ℕ) (views : List View) (r : Kept plan words views) (id : ℕ) (view : View) (here : Stands views id view) where
   mine : Knows plan words r.state r.bits view

@@ -12,7 +12,7 @@ Seated = Me (Unit {0}) View
 
 -- a view that holds the turn afterwards has looks that are true of the state at its rank
 abbrev pub HasTurnIfHeld : View → Type 0
-HasTurnIfHeld view = view.holds ≡ true → (rank : ℕ) → view.claim ≡ Some rank → HasTurn view rank
+HasTurnIfHeld view = view.holds ≡ true → (rank : ℕ) × HasTurn view rank
 
 -- claim
 abbrev pub ClaimTold : Step (Unit {0}) → Seated → ℕ → Seated → Type 0

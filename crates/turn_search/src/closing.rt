@@ -1,7 +1,7 @@
 // What a search that is over has come to.
 
 ghost use Rattle.std.specs.Prelude.{◌≡◌, ◌+◌, ◌≤◌, take, drop, length};
-ghost use Rattle.core.specs.Mem.Slots.{slots_items, IsFull};
+ghost use Rattle.std.specs.Slots.{slots_items, IsFull};
 ghost use Rattle.turn_search.specs.Closings.{IsEndOf, stuck_in};
 ghost use Rattle.turn_search.specs.Passes.{IsPassOf};
 
@@ -22,7 +22,7 @@ impl<'a> TurnTable<'a> {
     /// Ends the search of this table where it stands, which is no earlier than the pass has seen.
     pub fn close(self, pass: Pass) -> Ended
         requires pass { IsPassOf self pass }
-        ensures ended { IsEndOf self pass.view result }
+        ensures ended { IsEndOf self.entry pass.entry.view result }
     {
         let TurnTable {
             plan,

@@ -89,6 +89,7 @@ impl<'a> TurnTable<'a> {
         requires pass { IsPassAt self.now pass.old }
         requires shown { Shows pass.old.view rank pilot }
         requires all_set { pass.old.view.bits ≡ keys_at self.now.plan rank }
+        requires rank { rank < ranks_of self.now.plan }
         ensures pass { IsPassAt self.now pass.new }
         ensures view { pass.new.view ≡ after_store pass.old.view }
     {

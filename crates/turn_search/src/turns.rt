@@ -5,6 +5,7 @@ ghost use Rattle.turn_search.specs.Words.{turn_of, HasStop};
 ghost use Rattle.turn_search.specs.Steps.{after_load};
 ghost use Rattle.turn_search.specs.Claims.{look_answer};
 ghost use Rattle.turn_search.specs.Looks.{HasTurn};
+ghost use Rattle.turn_search.specs.Told.{HasTurnIfHeld};
 ghost use Rattle.turn_search.specs.Passes.{IsPassOf};
 ghost use Rattle.turn_search.specs.declared.turns.Turn.TheVariants.{Mine, NotYet, Stopped};
 
@@ -57,8 +58,8 @@ impl<'a> TurnTable<'a> {
         requires pass { IsPassOf self.now pass.old }
         ensures pass { IsPassOf self.now pass.new }
         ensures view { pass.new.view ≡ after_load pass.old.view result }
-        ensures has_turn { pass.new.view.holds ≡ true → (rank : ℕ) →
-            pass.new.view.claim ≡ Some rank → HasTurn pass.new.view rank }
+        ensures claim { pass.old.view.claim ≡ pass.new.view.claim }
+        ensures has_turn { HasTurnIfHeld pass.new.view }
         ensures never_back { turn_of pass.old.view.last ≤ turn_of result }
         ensures ahead { (rank : ℕ) → pass.old.view.claim ≡ Some rank → turn_of result ≤ rank }
         ensures stop_stays { HasStop pass.old.view.last → result ≡ pass.old.view.last }
