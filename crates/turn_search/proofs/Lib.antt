@@ -6,3 +6,5 @@ pub mod LoadKept
 pub mod CommitKept
 pub mod TurnKept
 pub mod Seats
+pub mod Looked
+pub mod LastState

@@ -22,7 +22,7 @@ impl<'a> TurnTable<'a> {
     /// Ends the search of this table where it stands, which is no earlier than the pass has seen.
     pub fn close(self, pass: Pass) -> Ended
         requires pass { IsPassOf self pass }
-        ensures ended { IsEndOf self.entry pass.entry.view result }
+        ensures { IsEndOf self.entry pass.view result }
     {
         let TurnTable {
             plan,

@@ -27,7 +27,7 @@ impl<'a> TurnTable<'a> {
         ensures turn { pass.new.view.last ≡ candidate.rank + 1 }
         ensures room { scratch.new.members ≡ scratch.old.members }
     {
-        let rank = candidate.rank();
+        let rank = pass.rank();
         let pilot = candidate.pilot();
         spread(self.plan, rank, pilot, scratch);
         self.set_bits(pass, rank, pilot, scratch.positions());

@@ -8,6 +8,7 @@ ghost use Rattle.pilot_search.specs.Table.{positions_under};
 ghost use Rattle.pthash.specs.SearchLaws.{fits_at};
 ghost use Rattle.turn_search.specs.Words.{ranks_of};
 ghost use Rattle.turn_search.specs.Looks.{found_taken, found_free, RejectsBelow, IsCandidateBy, Shows};
+ghost use Rattle.turn_search.specs.Told.{HasTurnIfHeld};
 ghost use Rattle.turn_search.specs.Passes.{CandidateData, IsPassOf, LooksAt, OnlyLooked, IsOfRank, IsPilotOf, new_looks};
 ghost use Rattle.turn_search.specs.declared.trying.Spec.TheVariants.{Found, AllRejected};
 
@@ -102,7 +103,20 @@ impl<'a> TurnTable<'a> {
         ensures all_rejected { result ≡ AllRejected →
             RejectsBelow pass.new.view candidate.rank self.now.plan.limit }
     {
-        self.spec_from(pass, candidate.pilot, scratch)
+        self.know_turn(pass);
+        let spec = self.spec_from(pass, candidate.pilot, scratch);
+        self.know_turn(pass);
+        spec
+    }
+
+    // Nothing is done: a pass that holds the turn has looks that are true of the search.
+    #[inline]
+    fn know_turn(&self, pass: &Pass)
+        ensures turn { HasTurnIfHeld pass.now.view }
+        ensures size { 1 ≤ self.now.plan.size }
+    {
+        let _ = &self.plan;
+        let _ = &pass.place;
     }
 
     // The least pilot from `first` on that is not rejected, as a candidate.
