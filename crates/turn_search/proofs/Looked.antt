@@ -228,17 +228,24 @@ module _ (plan : SearchPlan) (before after : View) (rank : ℕ) (looked : OnlyLo
   has_room : 1 ≤ after.plan.size
   has_room = subst (λ (q : SearchPlan). 1 ≤ q.size) (sym same_plan) room
 
-  -- what is found is shown
-  pub found_shows : (it : CandidateData) → IsOfRank after it → IsCandidateBy plan (new_looks before after) it.rank it.pilot → Shows after rank it.pilot
+  -- what is found is of the same rank
+  pub found_same_rank : (it : CandidateData) → IsOfRank after it → it.rank ≡ rank
+  found_same_rank it own = same_rank after.claim it.rank rank own.rank still_claims
+
+  -- it is shown
+  pub found_shows : (it : CandidateData) → IsOfRank after it → IsCandidateBy plan (new_looks before after) it.rank it.pilot →
+      Shows after it.rank it.pilot
   found_shows it own candidate =
-      let same : it.rank ≡ rank = same_rank after.claim it.rank rank own.rank still_claims in
-      retest_shows before after rank it.pilot looked turn held claims (subst (λ r. RejectsBelow after r it.pilot) same own.lower)
-      (subst (λ (x : SearchPlan × ℕ). IsCandidateBy x.0 (new_looks before after) x.1 it.pilot) (λ i. (sym same_plan i, same i)) candidate)
+      retest_shows before after it.rank it.pilot looked turn held (claims ∙ ap Some (sym (found_same_rank it own))) own.lower
+      (subst (λ q. IsCandidateBy q (new_looks before after) it.rank it.pilot) (sym same_plan) candidate)
 
   -- and is the pilot of the search
-  pub found_is_pilot : (it : CandidateData) → IsOfRank after it → IsCandidateBy plan (new_looks before after) it.rank it.pilot → IsPilotOf plan rank it.pilot
+  pub found_is_pilot : (it : CandidateData) → IsOfRank after it → IsCandidateBy plan (new_looks before after) it.rank it.pilot →
+      IsPilotOf plan it.rank it.pilot
   found_is_pilot it own candidate =
-      subst (λ q. IsPilotOf q rank it.pilot) same_plan (shown_in_search after rank it.pilot has_room still_has (found_shows it own candidate))
+      subst (λ q. IsPilotOf q it.rank it.pilot) same_plan
+      (shown_in_search after it.rank it.pilot has_room (subst (HasTurn after) (sym (found_same_rank it own)) still_has)
+      (found_shows it own candidate))
 
   -- all are rejected exactly where the search is stuck
   pub rejects_where_stuck : (spec : Spec) → ((it : CandidateData) → spec ≡ Found it → IsOfRank after it) →
@@ -248,5 +255,7 @@ module _ (plan : SearchPlan) (before after : View) (rank : ℕ) (looked : OnlyLo
   rejects_where_stuck spec own candidate all =
       subst (λ q. (spec ≡ AllRejected) ↔ (prefix_of q (rank + 1) ≡ Err rank)) same_plan
       (stuck_exactly after rank spec has_room still_has
-      (λ it is. shown_in_search after rank it.pilot has_room still_has (found_shows it (own it is) (candidate it is)))
+      (λ it is.
+      subst (λ r. IsPilotOf after.plan r it.pilot) (found_same_rank it (own it is))
+      (subst (λ q. IsPilotOf q it.rank it.pilot) (sym same_plan) (found_is_pilot it (own it is) (candidate it is))))
       (λ is. subst (λ (q : SearchPlan). RejectsBelow after rank q.limit) (sym same_plan) (all rank claims is)))

@@ -77,11 +77,8 @@ impl<'a> TurnTable<'a> {
             board,
             pilots,
         };
-        let pass = Pass {
-            seat,
-            place: 0,
-        };
-        Ok((table, pass))
+        let place = 0;
+        Ok((table, Pass { seat, place }))
     }
 
     /// One more pass, which has seen of the turn what this one has.

@@ -94,9 +94,10 @@ impl<'a> TurnTable<'a> {
         ensures found { (it : CandidateData) → result ≡ Found it →
             IsCandidateBy self.now.plan (new_looks pass.old.view pass.new.view) it.rank it.pilot }
         ensures shown { (it : CandidateData) → result ≡ Found it →
-            Shows pass.new.view candidate.rank it.pilot }
+            Shows pass.new.view it.rank it.pilot }
         ensures pilot { (it : CandidateData) → result ≡ Found it →
-            IsPilotOf self.now.plan candidate.rank it.pilot }
+            IsPilotOf self.now.plan it.rank it.pilot }
+        ensures same_rank { (it : CandidateData) → result ≡ Found it → it.rank ≡ candidate.rank }
 
         ensures stuck { (result ≡ AllRejected)
             ↔ (prefix_of self.now.plan (candidate.rank + 1) ≡ Err candidate.rank) }

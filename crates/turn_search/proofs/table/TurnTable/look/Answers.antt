@@ -10,7 +10,7 @@ returns-then-turn-rank-clause-mine c = λ _ rank claims.
     let now = c.load_turn-found.ensures in
     let claimed = c.rank.ensures.rank in
     let before = now.claim ∙ claimed in
-    let running : found < STOP = omega (arith, c.if-found-ge-STOP.false) in
+    let running : found < STOP = search rules in
     let turn : turn_of found ≡ c.rank.result = search (rules, c.if-turn-rank.true) in
     has_turn_of c.load_turn-found.new.pass.view rank now.has_turn
     (ap (λ v. v.holds) now.view ∙ came_turn c.args.pass.now.view found c.rank.result running before turn) claims
