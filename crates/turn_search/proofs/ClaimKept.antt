@@ -1,5 +1,6 @@
 -- A new table, a split and a claim keep the rule.
-use Rattle.std.proofs.Common.{◌≡◌, ◌≢◌, ℕ, ◌+◌, ◌/◌, ◌%◌, ◌^◌, ◌<◌, ◌≤◌, Bool, true, false, ◌||◌, List, [], ◌∷◌, ◌++◌, set, length, replicate, refl, sym, ap, ◌∙◌, subst, ⊎_elim, inl, inr, arith, eqb}
+use Rattle.std.proofs.Common.{◌≡◌, ◌≢◌, ℕ, ◌+◌, ◌/◌, ◌%◌, ◌^◌, ◌<◌, ◌≤◌, Bool, true, false, ◌||◌, List, [], ◌∷◌, ◌++◌, set, length, replicate, refl}
+use Rattle.std.proofs.Common.{sym, ap, ◌∙◌, subst, ⊎_elim, inl, inr, arith, eqb}
 use Rattle.std.specs.Prelude.{slice_index, slice_set, Option, Some, None, Ok, cond, bit_or, zero, suc}
 use Rattle.std.specs.Int.{bit_at}
 use Rattle.std.specs.FinSet.{contains, empty, contains-empty}
@@ -75,7 +76,8 @@ starts plan words blank =
       passed = λ rank below. absurd (omega (arith, first));
       pilots = λ rank below. absurd (omega (arith, first));
       taken = λ p below. zero_bit (bits_from plan) p words zeros
-          ∙ sym (ap (λ b. contains {R = nat_cmp} empty p || b) (among_none plan (turn_in words) (pilot_at plan (record { pilots = []; taken = empty }) (turn_in words)) p)
+          ∙ sym (ap (λ b. contains {R = nat_cmp} empty p || b)
+          (among_none plan (turn_in words) (pilot_at plan (record { pilots = []; taken = empty }) (turn_in words)) p)
           ∙ ap (λ b. b || false) (contains-empty nat_cmp p));
       stop_below = λ stop. absurd (omega (arith, zeros 0));
       stop_stuck = λ stop. absurd (omega (arith, zeros 0));
@@ -124,7 +126,8 @@ pub split_allowed : (plan : SearchPlan) (id : ℕ) (view : View) →
     Splits (λ (s : State (Unit {0}) View). Kept plan s.words s.views) id view view (new_view view.plan view.last)
 split_allowed plan id view s r here = split_kept plan s.words s.views id view r here
 
-module _ (plan : SearchPlan) (words : List ℕ) (views : List View) (r : Kept plan words views) (id : ℕ) (view : View) (here : Stands views id view) (none : view.claim ≡ None) (left : view.place < ranks_of plan) where
+module _ (plan : SearchPlan) (words : List ℕ) (views : List View) (r : Kept plan words views) (id : ℕ) (view : View) (here : Stands views id view)
+    (none : view.claim ≡ None) (left : view.place < ranks_of plan) where
   abbrev later : List ℕ
   later = set_bit words 1 view.place
 
@@ -139,7 +142,9 @@ module _ (plan : SearchPlan) (words : List ℕ) (views : List View) (r : Kept pl
 
   -- the words of the pilots stay
   same_pilots : (rank : ℕ) → pilot_in plan later rank ≡ pilot_in plan words rank
-  same_pilots rank = get_or-set_other words (1 + view.place / 64) (pilots_from plan + rank) (bit_or (slice_index words (1 + view.place / 64)) (2 ^ (view.place % 64))) 0 (λ e. omega (arith, e))
+  same_pilots rank =
+      get_or-set_other words (1 + view.place / 64) (pilots_from plan + rank)
+      (bit_or (slice_index words (1 + view.place / 64)) (2 ^ (view.place % 64))) 0 (λ e. omega (arith, e))
 
   -- the bits below the next place are set
   claimed_to : (rank : ℕ) → rank < view.place + 1 → is_claimed later rank ≡ true
@@ -154,7 +159,8 @@ module _ (plan : SearchPlan) (words : List ℕ) (views : List View) (r : Kept pl
   -- what a view knows that has gone on by a place, with this claim and no other look
   knows_on : (next : View) → next.plan ≡ view.plan → next.place ≡ view.place + 1 → next.holds ≡ false → next.bits ≡ view.bits → next.wrote ≡ view.wrote →
       next.last ≡ view.last → ((p : ℕ) → p < plan.size → found_taken next.looks p ≡ true → is_taken plan words p ≡ true) →
-      ((rank : ℕ) → next.claim ≡ Some rank → (turn_in words ≤ rank) × (rank < ranks_of plan) × (is_claimed later rank ≡ true)) → Knows plan later r.state r.bits next
+      ((rank : ℕ) → next.claim ≡ Some rank → (turn_in words ≤ rank) × (rank < ranks_of plan) × (is_claimed later rank ≡ true)) →
+          Knows plan later r.state r.bits next
   knows_on next same place rests bits wrote last looks claims = record {
     same_plan = same ∙ mine.same_plan;
     place_within = omega (arith, place);
@@ -200,7 +206,8 @@ module _ (plan : SearchPlan) (words : List ℕ) (views : List View) (r : Kept pl
       (λ rank is.
       let same : view.place ≡ rank = same_rank (with_claim view).claim view.place rank refl is in
       subst (λ q. (turn_in words ≤ q) × (q < ranks_of plan) × (is_claimed later q ≡ true)) same
-      (⊎_elim (λ (early : view.place < turn_in words). absurd (both_ways (is_claimed words view.place) clear (r.passed view.place early))) (λ (due : turn_in words ≤ view.place). due)
+      (⊎_elim (λ (early : view.place < turn_in words). absurd (both_ways (is_claimed words view.place) clear (r.passed view.place early)))
+      (λ (due : turn_in words ≤ view.place). due)
       (cases_lt view.place (turn_in words)), left, claimed_to view.place (omega arith))))
       (λ j other rank apart there theirs is.
       let same : view.place ≡ rank = same_rank (with_claim view).claim view.place rank refl is in
@@ -214,7 +221,8 @@ module _ (plan : SearchPlan) (words : List ℕ) (views : List View) (r : Kept pl
 -- kind 2
 pub claim_allowed : (plan : SearchPlan) (slots id : ℕ) (me : Me (Unit {0}) View) (mask : ℕ) → me.0.claim ≡ None → me.0.place < ranks_of plan →
     mask ≡ 2 ^ (me.0.place % 64) →
-    Allows (λ (s : State (Unit {0}) View). Kept plan s.words s.views) slots id me (1 + me.0.place / 64) (λ n. bit_or n mask) (ClaimTold (step slots (1 + me.0.place / 64) mask 0 maybe.none) me)
+    Allows (λ (s : State (Unit {0}) View). Kept plan s.words s.views) slots id me (1 + me.0.place / 64) (λ n. bit_or n mask)
+    (ClaimTold (step slots (1 + me.0.place / 64) mask 0 maybe.none) me)
 claim_allowed plan slots id me mask none left is s r deep here fits =
     let found : ℕ = slice_index s.words (1 + me.0.place / 64) in
     (after_claim me.0 found, keeps, tt,

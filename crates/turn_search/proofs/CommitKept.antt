@@ -1,5 +1,6 @@
 -- A bit more, and the store of the pilot, keep the rule.
-use Rattle.std.proofs.Common.{◌≡◌, ◌≢◌, ℕ, ◌+◌, ◌/◌, ◌%◌, ◌^◌, ◌<◌, ◌≤◌, Bool, true, false, ◌||◌, List, [], ◌∷◌, ◌++◌, length, take, refl, sym, ap, ◌∙◌, subst, ⊎_elim, inl, inr, arith, eqb}
+use Rattle.std.proofs.Common.{◌≡◌, ◌≢◌, ℕ, ◌+◌, ◌/◌, ◌%◌, ◌^◌, ◌<◌, ◌≤◌, Bool, true, false, ◌||◌, List, [], ◌∷◌, ◌++◌, length, take, refl, sym, ap}
+use Rattle.std.proofs.Common.{◌∙◌, subst, ⊎_elim, inl, inr, arith, eqb}
 use Rattle.std.specs.Prelude.{slice_index, slice_set, Option, Some, None, bit_or, nat_eq}
 use Rattle.std.specs.FinSet.{contains}
 use Rattle.std.proofs.Math.Bool.{or-false}
@@ -28,7 +29,8 @@ use Rattle.turn_search.proofs.Moves.{Stands, stands_within, not_none, same_rank,
 
 -- a front that gains the next position
 among_more : (plan : SearchPlan) (rank k count p : ℕ) → count < keys_at plan rank →
-    is_among (take (count + 1) (positions_at plan rank k)) p ≡ (is_among (take count (positions_at plan rank k)) p || nat_eq (slice_index (positions_at plan rank k) count) p)
+    is_among (take (count + 1) (positions_at plan rank k)) p ≡
+    (is_among (take count (positions_at plan rank k)) p || nat_eq (slice_index (positions_at plan rank k) count) p)
 among_more plan rank k count p below =
     let ps : List ℕ = positions_at plan rank k in
     ap (λ l. is_among l p) (take_more ps count 0 (omega (arith, length-positions_at plan rank k)))
@@ -47,7 +49,8 @@ taken_none_more true b = refl
 taken_none_more false true = refl
 taken_none_more false false = refl
 
-module _ (plan : SearchPlan) (room : 1 ≤ plan.size) (words : List ℕ) (views : List View) (r : Kept plan words views) (id : ℕ) (view : View) (here : Stands views id view)
+module _ (plan : SearchPlan) (room : 1 ≤ plan.size) (words : List ℕ) (views : List View) (r : Kept plan words views) (id : ℕ) (view : View)
+    (here : Stands views id view)
     (rank k : ℕ) (shows : Shows view rank k) where
   mine : Knows plan words r.state r.bits view
   mine = r.each id view here
@@ -68,12 +71,15 @@ module _ (plan : SearchPlan) (room : 1 ≤ plan.size) (words : List ℕ) (views 
 
   -- the others keep what they know, and none of them holds
   others : (later : List ℕ) (bits : ℕ) (j : ℕ) (other : View) → j ≢ id → Stands views j other → other.holds ≡ true → Holder plan later r.state bits other
-  others later bits j other apart there held = absurd (both_ways other.holds (others_idle plan words views r id view here holder.claims_turn j other apart there) held)
+  others later bits j other apart there held =
+      absurd (both_ways other.holds (others_idle plan words views r id view here holder.claims_turn j other apart there) held)
 
   -- after a step of the holder that leaves its claim, its looks and the turn
   moves_on : (next : View) (later : List ℕ) (bits : ℕ) → Grows plan words later → next.claim ≡ view.claim → next.holds ≡ true →
-      ((p : ℕ) → p < plan.size → is_taken plan later p ≡ (contains r.state.taken p || is_among (front_of plan (turn_in words) (pilot_at plan r.state (turn_in words)) bits) p)) →
-      ((q : ℕ) → q < turn_in words → pilot_in plan later q ≡ pilot_in plan words q) → Knows plan later r.state bits next → Moves plan words views r id later bits next
+      ((p : ℕ) → p < plan.size → is_taken plan later p ≡ (contains r.state.taken p || is_among
+      (front_of plan (turn_in words) (pilot_at plan r.state (turn_in words)) bits) p)) →
+      ((q : ℕ) → q < turn_in words → pilot_in plan later q ≡ pilot_in plan words q) → Knows plan later r.state bits next →
+          Moves plan words views r id later bits next
   moves_on next later bits grows claim held taken pilots knows = record {
     grows = grows;
     pilots = pilots;
@@ -131,16 +137,19 @@ module _ (plan : SearchPlan) (room : 1 ≤ plan.size) (words : List ℕ) (views 
         ⊎_elim
         (λ (same : position ≡ p).
         subst (λ q. is_taken plan later q ≡ true) same (is_set-set_same words (bits_from plan) position (omega (arith, r.count, in_range)))
-        ∙ sym (after ∙ ap (λ b. contains r.state.taken p || (front view.bits || b)) (eq-eqb position p same) ∙ taken_one_more (contains r.state.taken p) (front view.bits)))
+        ∙ sym (after ∙ ap (λ b. contains r.state.taken p || (front view.bits || b)) (eq-eqb position p same)
+        ∙ taken_one_more (contains r.state.taken p) (front view.bits)))
         (λ (other : position ≡ p → ⊥).
         is_set-set_other words (bits_from plan) p position (λ e. other (sym e)) ∙ before
-        ∙ sym (after ∙ ap (λ b. contains r.state.taken p || (front view.bits || b)) (ne_eqb position p other) ∙ taken_none_more (contains r.state.taken p) (front view.bits)))
+        ∙ sym (after ∙ ap (λ b. contains r.state.taken p || (front view.bits || b)) (ne_eqb position p other)
+        ∙ taken_none_more (contains r.state.taken p) (front view.bits)))
         (cases_eq position p)
 
     -- a pilot's word is no word of bits
     same_pilots : (q : ℕ) → pilot_in plan later q ≡ pilot_in plan words q
     same_pilots q =
-        get_or-set_other words (bits_from plan + position / 64) (pilots_from plan + q) (bit_or (slice_index words (bits_from plan + position / 64)) (2 ^ (position % 64))) 0
+        get_or-set_other words (bits_from plan + position / 64) (pilots_from plan + q)
+        (bit_or (slice_index words (bits_from plan + position / 64)) (2 ^ (position % 64))) 0
         (λ e. omega (arith, e, in_range))
 
     -- kind 5 keeps the rule
@@ -184,9 +193,11 @@ module _ (plan : SearchPlan) (room : 1 ≤ plan.size) (words : List ℕ) (views 
         })
 
 -- kind 5
-pub bit_allowed : (plan : SearchPlan) (slots id rank k mask : ℕ) (me : Me (Unit {0}) View) → 1 ≤ plan.size → Shows me.0 rank k → me.0.bits < keys_at plan rank → me.0.wrote ≡ false →
+pub bit_allowed : (plan : SearchPlan) (slots id rank k mask : ℕ) (me : Me (Unit {0}) View) → 1 ≤ plan.size → Shows me.0 rank k →
+    me.0.bits < keys_at plan rank → me.0.wrote ≡ false →
     mask ≡ 2 ^ (slice_index (positions_at plan rank k) me.0.bits % 64) →
-    Allows (λ (s : State (Unit {0}) View). Kept plan s.words s.views) slots id me (bits_from plan + slice_index (positions_at plan rank k) me.0.bits / 64) (λ n. bit_or n mask)
+    Allows (λ (s : State (Unit {0}) View). Kept plan s.words s.views) slots id me (bits_from plan + slice_index (positions_at plan rank k) me.0.bits / 64)
+    (λ n. bit_or n mask)
     (BitTold (step slots (bits_from plan + slice_index (positions_at plan rank k) me.0.bits / 64) mask 0 maybe.none) me)
 bit_allowed plan slots id rank k mask me room shows left quiet is s r deep here fits =
     let position : ℕ = slice_index (positions_at plan rank k) me.0.bits in
@@ -204,4 +215,5 @@ pub store_allowed : (plan : SearchPlan) (slots id rank k : ℕ) (me : Me (Unit {
 store_allowed plan slots id rank k me room shows full s r deep here fits =
     let after : View = after_store me.0 in
     (after, keeps, tt,
-    moved plan s.words s.views r id (slice_set s.words (pilots_from plan + rank) k) r.bits after (store_moves plan room s.words s.views r id me.0 here rank k shows full), refl)
+    moved plan s.words s.views r id (slice_set s.words (pilots_from plan + rank) k) r.bits after
+    (store_moves plan room s.words s.views r id me.0 here rank k shows full), refl)

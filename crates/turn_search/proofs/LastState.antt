@@ -29,7 +29,8 @@ module _ (plan : SearchPlan) (words : List ℕ) (views : List View) (kept : Kept
 
   -- as many as have had their turn
   pub length-first_pilots : length first_pilots ≡ turn_in words
-  length-first_pilots = length-take-le (turn_in words) (drop (pilots_from plan) words) (omega (arith, length-drop (pilots_from plan) words, kept.count, kept.turn_within))
+  length-first_pilots = length-take-le (turn_in words) (drop (pilots_from plan) words)
+      (omega (arith, length-drop (pilots_from plan) words, kept.count, kept.turn_within))
 
   -- they are those of the search
   pub first_pilots-are : AreFirstPilots plan first_pilots

@@ -8,3 +8,4 @@ pub mod TurnKept
 pub mod Seats
 pub mod Looked
 pub mod LastState
+pub mod CallerLemmas

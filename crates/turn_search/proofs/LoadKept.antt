@@ -1,5 +1,6 @@
 -- A load of the turn word, and a load of a word of the positions' bits, keep the rule.
-use Rattle.std.proofs.Common.{◌≡◌, ◌≢◌, ℕ, ◌+◌, ◌-◌, ◌/◌, ◌%◌, ◌<◌, ◌≤◌, Bool, true, false, ◌&&◌, ◌||◌, List, [], ◌∷◌, ◌++◌, length, drop, refl, sym, ap, ◌∙◌, subst, ⊎_elim, inl, inr, arith, eqb}
+use Rattle.std.proofs.Common.{◌≡◌, ◌≢◌, ℕ, ◌+◌, ◌-◌, ◌/◌, ◌%◌, ◌<◌, ◌≤◌, Bool, true, false, ◌&&◌, ◌||◌, List, [], ◌∷◌, ◌++◌, length, drop, refl, sym}
+use Rattle.std.proofs.Common.{ap, ◌∙◌, subst, ⊎_elim, inl, inr, arith, eqb}
 use Rattle.std.specs.Prelude.{slice_index, slice_set, Option, Some, None, cond, nat_lt, not, ◌==◌}
 use Rattle.std.specs.Int.{bit_at}
 use Rattle.std.specs.List.{list_any}
@@ -43,7 +44,8 @@ taken_is plan words views r p zero below =
     ∙ or-false (contains r.state.taken p)
 
 -- a holder of the rule has the turn of the rank that it claims
-pub has_turn : (plan : SearchPlan) (words : List ℕ) (views : List View) (r : Kept plan words views) (view : View) → Knows plan words r.state r.bits view → HasTurnIfHeld view
+pub has_turn : (plan : SearchPlan) (words : List ℕ) (views : List View) (r : Kept plan words views) (view : View) → Knows plan words r.state r.bits view →
+    HasTurnIfHeld view
 has_turn plan words views r view k held =
     let h : Holder plan words r.state r.bits view = k.holder held in
     (turn_in words, record { claims = h.claims_turn; state = r.state; reached = rw k.same_plan r.reached; sees = h.sees })
@@ -53,7 +55,8 @@ module _ (plan : SearchPlan) (words : List ℕ) (views : List View) (r : Kept pl
   mine = r.each id view here
 
   -- the facts of a step that changes no word
-  looks_on : (next : View) → next.claim ≡ view.claim → (((i : ℕ) (other : View) → Stands (slice_set views id next) i other → other.holds ≡ false) → r.bits ≡ 0) →
+  looks_on : (next : View) → next.claim ≡ view.claim → (((i : ℕ) (other : View) → Stands (slice_set views id next) i other → other.holds ≡ false) →
+      r.bits ≡ 0) →
       Knows plan words r.state r.bits next → Moves plan words views r id words r.bits next
   looks_on next claim unheld knows = record {
     grows = grows_same plan words;
@@ -72,8 +75,10 @@ module _ (plan : SearchPlan) (words : List ℕ) (views : List View) (r : Kept pl
       r.unheld (none_held views id view next here idle all)
 
   -- a view that has loaded the turn word knows its value
-  knows_loaded : (next : View) → next.plan ≡ view.plan → next.place ≡ view.place → next.claim ≡ view.claim → next.looks ≡ view.looks → next.last ≡ turn_word words →
-      (next.holds ≡ true → Holder plan words r.state r.bits next) → (next.holds ≡ false → (next.bits ≡ 0) × (next.wrote ≡ false)) → Knows plan words r.state r.bits next
+  knows_loaded : (next : View) → next.plan ≡ view.plan → next.place ≡ view.place → next.claim ≡ view.claim → next.looks ≡ view.looks →
+      next.last ≡ turn_word words →
+      (next.holds ≡ true → Holder plan words r.state r.bits next) → (next.holds ≡ false → (next.bits ≡ 0) × (next.wrote ≡ false)) →
+          Knows plan words r.state r.bits next
   knows_loaded next same place claim looks last holder rests = record {
     same_plan = same ∙ mine.same_plan;
     place_within = omega (arith, place, mine.place_within);
@@ -105,7 +110,8 @@ module _ (plan : SearchPlan) (words : List ℕ) (views : List View) (r : Kept pl
   only_loaded : Moves plan words views r id words r.bits (with_load view (turn_word words))
   only_loaded =
       looks_on (with_load view (turn_word words)) refl (none_holds (with_load view (turn_word words)) refl)
-      (knows_loaded (with_load view (turn_word words)) refl refl refl refl refl (λ held. still_holds (mine.holder held)) (λ idle. (mine.set_nothing idle, mine.wrote_nothing idle)))
+      (knows_loaded (with_load view (turn_word words)) refl refl refl refl refl (λ held. still_holds (mine.holder held))
+      (λ idle. (mine.set_nothing idle, mine.wrote_nothing idle)))
 
   -- where this view claims the turn and doesn't hold it, nobody does, so no bit is set for its rank
   no_bits : view.claim ≡ Some (turn_in words) → view.holds ≡ false → r.bits ≡ 0
@@ -158,7 +164,8 @@ module _ (plan : SearchPlan) (words : List ℕ) (views : List View) (r : Kept pl
       let mine : Bool = word == p / 64 && bit_at found (p % 64) == 1 in
       let last : (mine || false) ≡ true =
       ap (λ b. b || (mine || false)) (sym new)
-      ∙ sym (list_any-append (λ (look : Look). look.word == p / 64 && bit_at look.value (p % 64) == 1) view.looks ((record { word = word; value = found }) ∷ []))
+      ∙ sym (list_any-append (λ (look : Look). look.word == p / 64 && bit_at look.value (p % 64) == 1) view.looks
+      ((record { word = word; value = found }) ∷ []))
       ∙ is in
       let parts = and_parts (word == p / 64) (bit_at found (p % 64) == 1) (sym (or-false mine) ∙ last) in
       (eqb-true word (p / 64) parts.0, parts.1)
@@ -170,7 +177,8 @@ module _ (plan : SearchPlan) (words : List ℕ) (views : List View) (r : Kept pl
       let mine : Bool = word == p / 64 && not (bit_at found (p % 64) == 1) in
       let last : (mine || false) ≡ true =
       ap (λ b. b || (mine || false)) (sym new)
-      ∙ sym (list_any-append (λ (look : Look). look.word == p / 64 && not (bit_at look.value (p % 64) == 1)) looks ((record { word = word; value = found }) ∷ []))
+      ∙ sym (list_any-append (λ (look : Look). look.word == p / 64 && not (bit_at look.value (p % 64) == 1)) looks
+      ((record { word = word; value = found }) ∷ []))
       ∙ is in
       let parts = and_parts (word == p / 64) (not (bit_at found (p % 64) == 1)) (sym (or-false mine) ∙ last) in
       (eqb-true word (p / 64) parts.0, not-true (bit_at found (p % 64) == 1) parts.1)
@@ -259,13 +267,15 @@ load_allowed plan slots id me s r deep here fits =
         never_back = mine.turn_passed;
         claim_ahead = mine.claim_ahead;
         stop_stays = mine.stop_stays;
-        has_turn = has_turn plan s.words (slice_set s.views id after) kept after (kept.each id after (set_here s.views id after (stands_within s.views id me.0 here)));
+        has_turn = has_turn plan s.words (slice_set s.views id after) kept after
+            (kept.each id after (set_here s.views id after (stands_within s.views id me.0 here)));
       },
     )
 
 -- kind 4
 pub look_allowed : (plan : SearchPlan) (slots id word : ℕ) (me : Me (Unit {0}) View) → me.0.plan ≡ plan → me.0.bits ≡ 0 →
-    Allows (λ (s : State (Unit {0}) View). Kept plan s.words s.views) slots id me (bits_from plan + word) (λ n. n) (LookTold (step slots (bits_from plan + word) 0 0 maybe.none) me)
+    Allows (λ (s : State (Unit {0}) View). Kept plan s.words s.views) slots id me (bits_from plan + word) (λ n. n)
+    (LookTold (step slots (bits_from plan + word) 0 0 maybe.none) me)
 look_allowed plan slots id word me same zero s r deep here fits =
     let found : ℕ = slice_index s.words (bits_from plan + word) in
     let after : View = after_look me.0 word found in
@@ -278,6 +288,7 @@ look_allowed plan slots id word me same zero s r deep here fits =
       subst (λ ws. Kept plan ws (slice_set s.views id after)) (sym (set-get_or s.words (bits_from plan + word) 0)) kept,
       record {
         view = ap (λ w. (after_look me.0 w found, me.1)) (sym from);
-        has_turn = has_turn plan s.words (slice_set s.views id after) kept after (kept.each id after (set_here s.views id after (stands_within s.views id me.0 here)));
+        has_turn = has_turn plan s.words (slice_set s.views id after) kept after
+            (kept.each id after (set_here s.views id after (stands_within s.views id me.0 here)));
       },
     )

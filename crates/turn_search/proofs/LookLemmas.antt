@@ -21,7 +21,8 @@ free_of_less size taken larger more [] within free = refl
 free_of_less size taken larger more (p ∷ ps) within free =
     let sizes = and_parts (nat_lt p size) (are_in_table size ps) within in
     let parts = and_parts (not (larger p)) (list_all (λ q. not (larger q)) ps) free in
-    let new : taken p ≡ false = false_from_ne_true (taken p) (λ held. both_ways (larger p) (not-true (larger p) parts.0) (more p (ltb-true p size sizes.0) held)) in
+    let new : taken p ≡ false = false_from_ne_true (taken p) (λ held. both_ways (larger p) (not-true (larger p) parts.0)
+    (more p (ltb-true p size sizes.0) held)) in
     and_from (not (taken p)) (list_all (λ q. not (taken q)) ps) (not_from_false (taken p) new) (free_of_less size taken larger more ps sizes.1 parts.1)
 
 -- positions of the table that don't fit still don't where more of the table is taken
@@ -45,7 +46,8 @@ length-positions_at plan rank k = length-map (bucket_at plan.buckets rank).membe
 pub position_below : (plan : SearchPlan) (rank k i : ℕ) → 1 ≤ plan.size → i < keys_at plan rank → slice_index (positions_at plan rank k) i < plan.size
 position_below plan rank k i room below =
     ltb-true (slice_index (positions_at plan rank k) i) plan.size
-    (AllPass-from_list_all (λ p. nat_lt p plan.size) (positions_at plan rank k) (in_table plan rank k room) i 0 (omega (arith, length-positions_at plan rank k)))
+    (AllPass-from_list_all (λ p. nat_lt p plan.size) (positions_at plan rank k) (in_table plan rank k room) i 0
+    (omega (arith, length-positions_at plan rank k)))
 
 -- a pilot that a view rejects while it holds the turn doesn't fit the state there
 pub rejected_fails : (view : View) (state : SearchState) (rank n : ℕ) → 1 ≤ view.plan.size → SeesState view state → RejectsBelow view rank n →

@@ -1,12 +1,14 @@
 -- What looks that come to a view leave of what it found, and add to it.
-use Rattle.std.proofs.Common.{◌≡◌, ℕ, ◌+◌, ◌/◌, ◌%◌, ◌<◌, ◌≤◌, Bool, true, false, ◌&&◌, ◌||◌, List, [], ◌∷◌, ◌++◌, length, take, drop, refl, sym, ap, ◌∙◌, subst, arith, ⊎_elim}
+use Rattle.std.proofs.Common.{◌≡◌, ℕ, ◌+◌, ◌/◌, ◌%◌, ◌<◌, ◌≤◌, Bool, true, false, ◌&&◌, ◌||◌, List, [], ◌∷◌, ◌++◌, length, take, drop, refl, sym, ap}
+use Rattle.std.proofs.Common.{◌∙◌, subst, arith, ⊎_elim}
 use Rattle.std.specs.Prelude.{not, nat_eq, nat_lt, ◌==◌, slice_index, bit_xor, map, Some, None, Ok, Err, ◌↔◌}
 use Rattle.std.specs.Int.{bit_at}
 use Rattle.std.specs.List.{list_any, list_all}
 use Rattle.std.specs.FinSet.{contains}
 use Rattle.std.proofs.Math.Seq.{drop-append_seam}
 use Rattle.std.proofs.Math.Bool.{or-false}
-use Rattle.std.proofs.lemmas.Bool.{and_parts, and_from, and_left, and_right, or_left, or_right, not-true, not_from_true, both_ways, false_from_ne_true, eq-eqb, cases_lt}
+use Rattle.std.proofs.lemmas.Bool.{and_parts, and_from, and_left, and_right, or_left, or_right, not-true, not_from_true, both_ways}
+use Rattle.std.proofs.lemmas.Bool.{false_from_ne_true, eq-eqb, cases_lt}
 use Rattle.std.proofs.lemmas.List.{append-nil, append_assoc, drop-append-le, take_more, length-map, get_or-map, map-append}
 use Rattle.std.proofs.lemmas.List.Folds.{list_any-append, list_all-append}
 use Rattle.std.proofs.lemmas.List.Sums.{AllPass-from_list_all}
@@ -63,15 +65,18 @@ new_looks-on one two three first second =
 -- what looks found stays found among more
 pub taken_left : (looks more : List Look) (p : ℕ) → found_taken looks p ≡ true → found_taken (looks ++ more) p ≡ true
 taken_left looks more p found =
-    list_any-append (λ (look : Look). look.word == p / 64 && bit_at look.value (p % 64) == 1) looks more ∙ or_left (found_taken looks p) (found_taken more p) found
+    list_any-append (λ (look : Look). look.word == p / 64 && bit_at look.value (p % 64) == 1) looks more
+    ∙ or_left (found_taken looks p) (found_taken more p) found
 
 pub free_left : (looks more : List Look) (p : ℕ) → found_free looks p ≡ true → found_free (looks ++ more) p ≡ true
 free_left looks more p found =
-    list_any-append (λ (look : Look). look.word == p / 64 && not (bit_at look.value (p % 64) == 1)) looks more ∙ or_left (found_free looks p) (found_free more p) found
+    list_any-append (λ (look : Look). look.word == p / 64 && not (bit_at look.value (p % 64) == 1)) looks more
+    ∙ or_left (found_free looks p) (found_free more p) found
 
 pub free_right : (looks more : List Look) (p : ℕ) → found_free more p ≡ true → found_free (looks ++ more) p ≡ true
 free_right looks more p found =
-    list_any-append (λ (look : Look). look.word == p / 64 && not (bit_at look.value (p % 64) == 1)) looks more ∙ or_right (found_free looks p) (found_free more p) found
+    list_any-append (λ (look : Look). look.word == p / 64 && not (bit_at look.value (p % 64) == 1)) looks more
+    ∙ or_right (found_free looks p) (found_free more p) found
 
 -- positions of which all pass a test pass a weaker one
 all_weaker : (test weaker : ℕ → Bool) → ((p : ℕ) → test p ≡ true → weaker p ≡ true) → (ps : List ℕ) → list_all test ps ≡ true → list_all weaker ps ≡ true
@@ -116,7 +121,8 @@ positions_more hash size members i below =
     ap (positions_under hash size) (take_more members i 0 below) ∙ map-append (λ b. bit_xor b hash % size) (take i members) (slice_index members i ∷ [])
 
 -- one more position was found free
-pub free_more : (one two three : View) (ps : List ℕ) (p : ℕ) → OnlyLooked one two → LooksAt two three p true → list_all (found_free (new_looks one two)) ps ≡ true →
+pub free_more : (one two three : View) (ps : List ℕ) (p : ℕ) → OnlyLooked one two → LooksAt two three p true →
+    list_all (found_free (new_looks one two)) ps ≡ true →
     list_all (found_free (new_looks one three)) (ps ++ p ∷ []) ≡ true
 free_more one two three ps p looked look all =
     let once = looked_once two three p true look in
@@ -125,10 +131,12 @@ free_more one two three ps p looked look all =
     ∙ list_all-append (found_free (new_looks one two ++ new_looks two three)) ps (p ∷ [])
     ∙ and_from (list_all (found_free (new_looks one two ++ new_looks two three)) ps) (found_free (new_looks one two ++ new_looks two three) p && true)
     (all_free_left (new_looks one two) (new_looks two three) ps all)
-    (and_from (found_free (new_looks one two ++ new_looks two three) p) true (free_right (new_looks one two) (new_looks two three) p (look_free two three p look)) refl)
+    (and_from (found_free (new_looks one two ++ new_looks two three) p) true
+    (free_right (new_looks one two) (new_looks two three) p (look_free two three p look)) refl)
 
 -- one of the positions is taken
-pub not_all_free : (taken : ℕ → Bool) (hash size : ℕ) (members : List ℕ) (i : ℕ) → i < length members → taken (bit_xor (slice_index members i) hash % size) ≡ true →
+pub not_all_free : (taken : ℕ → Bool) (hash size : ℕ) (members : List ℕ) (i : ℕ) → i < length members →
+    taken (bit_xor (slice_index members i) hash % size) ≡ true →
     list_all (λ p. not (taken p)) (positions_under hash size members) ≡ false
 not_all_free taken hash size members i below is =
     let ps : List ℕ = positions_under hash size members in
@@ -146,12 +154,14 @@ rejects_on before after rank k looked rejects =
     false_from_ne_true (found_taken before.looks p) (λ found. both_ways (found_taken now.looks p) free (taken_left before.looks looked.more p found)) in
     subst (λ v. RejectsBelow v rank k) (sym looked.view)
     record {
-      fails = λ j below. pilot_fits-more before.plan.seed before.plan.size (found_taken before.looks) (found_taken now.looks) (bucket_at before.plan.buckets rank).members j more
+      fails = λ j below. pilot_fits-more before.plan.seed before.plan.size (found_taken before.looks) (found_taken now.looks)
+          (bucket_at before.plan.buckets rank).members j more
           (rejects.fails j below);
     }
 
 -- one pilot more is rejected
-pub rejects_next : (view : View) (rank k : ℕ) → RejectsBelow view rank k → fits_at view.plan (found_taken view.looks) rank k ≡ false → RejectsBelow view rank (k + 1)
+pub rejects_next : (view : View) (rank k : ℕ) → RejectsBelow view rank k → fits_at view.plan (found_taken view.looks) rank k ≡ false →
+    RejectsBelow view rank (k + 1)
 rejects_next view rank k rejects last = record {
   fails = λ j below.
       ⊎_elim (λ (lower : j < k). rejects.fails j lower)

@@ -1,5 +1,6 @@
 -- A step that leaves the turn word and the state of the search keeps the rule.
-use Rattle.std.proofs.Common.{◌≡◌, ◌≢◌, ℕ, ◌+◌, ◌%◌, ◌<◌, ◌≤◌, Bool, true, false, ◌||◌, List, [], ◌∷◌, ◌++◌, set, refl, sym, ap, ◌∙◌, subst, ⊎_elim, inl, inr, arith}
+use Rattle.std.proofs.Common.{◌≡◌, ◌≢◌, ℕ, ◌+◌, ◌%◌, ◌<◌, ◌≤◌, Bool, true, false, ◌||◌, List, [], ◌∷◌, ◌++◌, set, refl, sym, ap, ◌∙◌, subst, ⊎_elim}
+use Rattle.std.proofs.Common.{inl, inr, arith}
 use Rattle.std.specs.Prelude.{zero, suc, length, slice_index, slice_set, Option, Some, None}
 use Rattle.std.specs.FinSet.{contains}
 use Rattle.std.proofs.lemmas.Bool.{false_from_ne_true, both_ways, cases_eq}
@@ -76,7 +77,8 @@ knows_stays plan words later state bits more view grows k holder = record {
 }
 
 -- a step of the view at `id`, which becomes `view`, that leaves the turn word; so many bits are set for the turn's rank afterwards
-pub record Moves (plan : SearchPlan) (words : List ℕ) (views : List View) (r : Kept plan words views) (id : ℕ) (later : List ℕ) (bits : ℕ) (view : View) : Type 0 where
+pub record Moves (plan : SearchPlan) (words : List ℕ) (views : List View) (r : Kept plan words views) (id : ℕ) (later : List ℕ) (bits : ℕ)
+    (view : View) : Type 0 where
   pub grows : Grows plan words later
   pub pilots : (rank : ℕ) → rank < turn_in words → pilot_in plan later rank ≡ pilot_in plan words rank
   pub taken : (p : ℕ) → p < plan.size → is_taken plan later p

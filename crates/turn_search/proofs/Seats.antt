@@ -1,5 +1,6 @@
 -- What each kind of step asks of a seat of a table, and what it leaves a pass.
-use Rattle.std.proofs.Common.{◌≡◌, ◌≢◌, ℕ, ◌+◌, ◌-◌, ◌*◌, ◌/◌, ◌%◌, ◌^◌, ◌<◌, ◌≤◌, Bool, true, false, List, [], ◌∷◌, ◌++◌, length, refl, sym, ap, ◌∙◌, subst, arith}
+use Rattle.std.proofs.Common.{◌≡◌, ◌≢◌, ℕ, ◌+◌, ◌-◌, ◌*◌, ◌/◌, ◌%◌, ◌^◌, ◌<◌, ◌≤◌, Bool, true, false, List, [], ◌∷◌, ◌++◌, length, refl, sym, ap, ◌∙◌}
+use Rattle.std.proofs.Common.{subst, arith}
 use Rattle.std.specs.Prelude.{slice_index, drop, Some, None, cond, bit_or, ◌==◌, ◌&&◌, not, nat_lt}
 use Rattle.std.specs.Int.{bit_at}
 use Rattle.std.proofs.lemmas.Bool.{and_from, not_from_false, lt-ltb, eq-eqb}
@@ -31,10 +32,12 @@ Keeps plan s = Kept plan s.words s.views
 module _ (plan key : SearchPlan) (words slots : ℕ) (pilots : List ℕ) (laid : IsLaid plan key words slots pilots) (id : ℕ) (me : Me (Unit {0}) View) where
   -- kind 2
   pub may_claim : (place mask : ℕ) → me.0.place ≡ place → me.0.claim ≡ None → place < ranks_of plan → mask ≡ 2 ^ (place % 64) →
-      (1 + place / 64 < words) × Allows (Keeps key) slots id me (1 + place / 64) (λ n. bit_or n mask) (ClaimTold (step slots (1 + place / 64) mask 0 maybe.none) me)
+      (1 + place / 64 < words) × Allows (Keeps key) slots id me (1 + place / 64) (λ n. bit_or n mask)
+      (ClaimTold (step slots (1 + place / 64) mask 0 maybe.none) me)
   may_claim place mask at none left is = (
     omega (arith, laid.words_are),
-    subst (λ k. Allows (Keeps k) slots id me (1 + place / 64) (λ n. bit_or n mask) (ClaimTold (step slots (1 + place / 64) mask 0 maybe.none) me)) (sym laid.same_key)
+    subst (λ k. Allows (Keeps k) slots id me (1 + place / 64) (λ n. bit_or n mask) (ClaimTold (step slots (1 + place / 64) mask 0 maybe.none) me))
+    (sym laid.same_key)
         (subst (λ p. Allows (Keeps plan) slots id me (1 + p / 64) (λ n. bit_or n mask) (ClaimTold (step slots (1 + p / 64) mask 0 maybe.none) me)) at
         (claim_allowed plan slots id me mask none (omega (arith, at)) (is ∙ ap (λ p. 2 ^ (p % 64)) (sym at)))),
   )
@@ -49,7 +52,8 @@ module _ (plan key : SearchPlan) (words slots : ℕ) (pilots : List ℕ) (laid :
   may_look first word from same zero below =
       subst (λ f. (f + word < words) × Allows (Keeps key) slots id me (f + word) (λ n. n) (LookTold (step slots (f + word) 0 0 maybe.none) me)) (sym from) (
         omega (arith, laid.words_are),
-        subst (λ k. Allows (Keeps k) slots id me (bits_from plan + word) (λ n. n) (LookTold (step slots (bits_from plan + word) 0 0 maybe.none) me)) (sym laid.same_key)
+        subst (λ k. Allows (Keeps k) slots id me (bits_from plan + word) (λ n. n) (LookTold (step slots (bits_from plan + word) 0 0 maybe.none) me))
+        (sym laid.same_key)
             (look_allowed plan slots id word me same zero),
       )
 
@@ -60,11 +64,14 @@ module _ (plan key : SearchPlan) (words slots : ℕ) (pilots : List ℕ) (laid :
       (BitTold (step slots (first + position / 64) mask 0 maybe.none) me)
   may_set first rank k position mask from shows left quiet here is =
       let below : position < plan.size = subst (λ p. p < plan.size) (sym here) (position_below plan rank k me.0.bits laid.searchable.has_position left) in
-      subst (λ f. (f + position / 64 < words) × Allows (Keeps key) slots id me (f + position / 64) (λ n. bit_or n mask) (BitTold (step slots (f + position / 64) mask 0 maybe.none) me)) (sym from) (
+      subst (λ f. (f + position / 64 < words) × Allows (Keeps key) slots id me (f + position / 64) (λ n. bit_or n mask)
+      (BitTold (step slots (f + position / 64) mask 0 maybe.none) me)) (sym from) (
         omega (arith, laid.words_are),
-        subst (λ q. Allows (Keeps q) slots id me (bits_from plan + position / 64) (λ n. bit_or n mask) (BitTold (step slots (bits_from plan + position / 64) mask 0 maybe.none) me))
+        subst (λ q. Allows (Keeps q) slots id me (bits_from plan + position / 64) (λ n. bit_or n mask)
+        (BitTold (step slots (bits_from plan + position / 64) mask 0 maybe.none) me))
             (sym laid.same_key)
-            (subst (λ p. Allows (Keeps plan) slots id me (bits_from plan + p / 64) (λ n. bit_or n mask) (BitTold (step slots (bits_from plan + p / 64) mask 0 maybe.none) me)) (sym here)
+            (subst (λ p. Allows (Keeps plan) slots id me (bits_from plan + p / 64) (λ n. bit_or n mask)
+            (BitTold (step slots (bits_from plan + p / 64) mask 0 maybe.none) me)) (sym here)
             (bit_allowed plan slots id rank k mask me laid.searchable.has_position shows left quiet (is ∙ ap (λ p. 2 ^ (p % 64)) here))),
       )
 
@@ -72,9 +79,11 @@ module _ (plan key : SearchPlan) (words slots : ℕ) (pilots : List ℕ) (laid :
   pub may_store : (first rank k : ℕ) → first ≡ pilots_from plan → Shows me.0 rank k → me.0.bits ≡ keys_at plan rank → rank < ranks_of plan →
       (first + rank < words) × Allows (Keeps key) slots id me (first + rank) (λ _. k) (λ _. StoreTold (step slots (first + rank) k 0 maybe.none) me k)
   may_store first rank k from shows full within =
-      subst (λ f. (f + rank < words) × Allows (Keeps key) slots id me (f + rank) (λ _. k) (λ _. StoreTold (step slots (f + rank) k 0 maybe.none) me k)) (sym from) (
+      subst (λ f. (f + rank < words) × Allows (Keeps key) slots id me (f + rank) (λ _. k) (λ _. StoreTold (step slots (f + rank) k 0 maybe.none) me k))
+      (sym from) (
         omega (arith, laid.words_are),
-        subst (λ q. Allows (Keeps q) slots id me (pilots_from plan + rank) (λ _. k) (λ _. StoreTold (step slots (pilots_from plan + rank) k 0 maybe.none) me k)) (sym laid.same_key)
+        subst (λ q. Allows (Keeps q) slots id me (pilots_from plan + rank) (λ _. k)
+        (λ _. StoreTold (step slots (pilots_from plan + rank) k 0 maybe.none) me k)) (sym laid.same_key)
             (store_allowed plan slots id rank k me laid.searchable.has_position shows full),
       )
 

@@ -1,5 +1,6 @@
 -- Passing the turn on, and stopping, keep the rule.
-use Rattle.std.proofs.Common.{◌≡◌, ◌≢◌, ℕ, ◌+◌, ◌%◌, ◌<◌, ◌≤◌, Bool, true, false, ◌||◌, List, [], ◌∷◌, ◌++◌, length, take, refl, sym, ap, ◌∙◌, subst, ⊎_elim, inl, inr, arith, add-one}
+use Rattle.std.proofs.Common.{◌≡◌, ◌≢◌, ℕ, ◌+◌, ◌%◌, ◌<◌, ◌≤◌, Bool, true, false, ◌||◌, List, [], ◌∷◌, ◌++◌, length, take, refl, sym, ap, ◌∙◌, subst}
+use Rattle.std.proofs.Common.{⊎_elim, inl, inr, arith, add-one}
 use Rattle.std.specs.Prelude.{suc, slice_index, slice_set, Option, Some, None, Ok, Err, ◌-◌, ◌^◌, bit_or}
 use Rattle.std.specs.FinSet.{contains}
 use Rattle.std.proofs.Math.Bool.{or-false}
@@ -34,7 +35,8 @@ pub prefix_of-stuck : (plan : SearchPlan) (rank : ℕ) (state : SearchState) →
 unfolding prefix_of
 prefix_of-stuck plan rank state reached none = ap (prefix_of plan) (add-one rank) ∙ rw (reached, none) refl
 
-module _ (plan : SearchPlan) (small : ranks_of plan < STOP) (words : List ℕ) (views : List View) (r : Kept plan words views) (id : ℕ) (view : View) (here : Stands views id view)
+module _ (plan : SearchPlan) (small : ranks_of plan < STOP) (words : List ℕ) (views : List View) (r : Kept plan words views) (id : ℕ) (view : View)
+    (here : Stands views id view)
     (held : view.holds ≡ true) where
   abbrev turn : ℕ
   turn = turn_in words
@@ -81,7 +83,8 @@ module _ (plan : SearchPlan) (small : ranks_of plan < STOP) (words : List ℕ) (
   -- what the holder knows after its step, in which it gave up the turn
   mine_after : (value : ℕ) (state : SearchState) (next : View) → turn ≤ turn_of value → next.plan ≡ view.plan → next.place ≡ view.place → next.holds ≡ false →
       next.last ≡ value → next.bits ≡ 0 → next.wrote ≡ false → ((p : ℕ) → p < plan.size → found_taken next.looks p ≡ true → is_taken plan words p ≡ true) →
-      ((rank : ℕ) → next.claim ≡ Some rank → (turn_of value ≤ rank) × (rank < ranks_of plan) × (is_claimed words rank ≡ true)) → Knows plan (slice_set words 0 value) state 0 next
+      ((rank : ℕ) → next.claim ≡ Some rank → (turn_of value ≤ rank) × (rank < ranks_of plan) × (is_claimed words rank ≡ true)) →
+          Knows plan (slice_set words 0 value) state 0 next
   mine_after value state next on same place rests last bits wrote looks claims =
       let now : turn_word (slice_set words 0 value) ≡ value = get_or-set_same words 0 value 0 (omega (arith, r.count)) in
       record {
@@ -157,7 +160,9 @@ module _ (plan : SearchPlan) (small : ranks_of plan < STOP) (words : List ℕ) (
           passed = λ rank below.
               claimed-turn_set words (turn + 1) rank
               ∙ ⊎_elim (λ (lower : rank < turn). r.passed rank lower)
-              (λ (last : turn ≤ rank). let same : turn ≡ rank = omega (arith, now) in subst (λ q. is_claimed words q ≡ true) same (mine.claim_set turn holder.claims_turn))
+              (λ (last : turn ≤ rank).
+              let same : turn ≡ rank = omega (arith, now) in
+              subst (λ q. is_claimed words q ≡ true) same (mine.claim_set turn holder.claims_turn))
               (cases_lt rank turn);
           pilots = λ rank below. all_pilots rank (omega (arith, now));
           taken = λ p below. all_taken p (r.taken p below);
@@ -243,7 +248,8 @@ pass_allowed plan slots id rank me small held claims full wrote s r deep here fi
     )
 
 -- kind 8
-pub stop_allowed : (plan : SearchPlan) (slots id rank : ℕ) (me : Me (Unit {0}) View) → ranks_of plan < STOP → 1 ≤ plan.size → me.0.holds ≡ true → me.0.claim ≡ Some rank →
+pub stop_allowed : (plan : SearchPlan) (slots id rank : ℕ) (me : Me (Unit {0}) View) → ranks_of plan < STOP → 1 ≤ plan.size → me.0.holds ≡ true →
+    me.0.claim ≡ Some rank →
     me.0.bits ≡ 0 → RejectsBelow me.0 rank plan.limit →
     Allows (λ (s : State (Unit {0}) View). Kept plan s.words s.views) slots id me 0 (λ n. bit_or n STOP) (StopTold (step slots 0 STOP 0 maybe.none) me)
 stop_allowed plan slots id rank me small room held claims nothing rejects s r deep here fits =

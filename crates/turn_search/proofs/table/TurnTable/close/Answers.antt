@@ -25,7 +25,8 @@ returns c =
     let turn : turn_in words ≡ c.word-last.result % STOP = ap (λ w. w % STOP) word in
     let ranks : c.ranks.result ≡ ranks_of c.args.self.plan = c.ranks.ensures.value ∙ ap (λ t. ranks_of t.plan) c.self.view_is in
     let from : c.pilots_from.result ≡ pilots_from c.args.self.plan = c.pilots_from.ensures.value ∙ ap (λ t. pilots_from t.plan) c.self.view_is in
-    let copied : c.truncate.new.self.items ≡ take (c.word-last.result % STOP) (drop c.pilots_from.result words) = (first_of (search rules, grind (arith, common_steps))) in
+    let copied : c.truncate.new.self.items ≡ take (c.word-last.result % STOP) (drop c.pilots_from.result words) =
+        (first_of (search rules, grind (arith, common_steps))) in
     end_of c.args.self key words last.0.views c.pass.inside.seat.id c.args.pass.view _ same kept there
     (copied ∙ ap (λ n. take n (drop c.pilots_from.result words)) (sym turn) ∙ ap (λ f. take (turn_in words) (drop f words)) from)
     (c.stuck_in.ensures ∙ ap stuck_in (sym word))

@@ -14,7 +14,8 @@ fetch_or-requires c =
     let pass = c.pass.inside in
     let rank = c.args.rank in
     let pilot = c.args.pilot in
-    let may = may_set table.plan.now table.board.shared.key table.board.shared.table_id.words table.board.shared.table_id.slots table.pilots.items c.self.invariant
+    let may = may_set table.plan.now table.board.shared.key table.board.shared.table_id.words table.board.shared.table_id.slots table.pilots.items
+    c.self.invariant
     pass.seat.id pass.seat.me c.bits_from.result rank pilot c.args.position _ c.bits_from.ensures.value
     (subst (λ (p : PassData). Shows p.view rank pilot) (sym c.pass.view_is) c.requires.shown)
     (subst (λ (x : PassData × TurnTableData). x.0.view.bits < keys_at x.1.plan rank) (λ i. (sym c.pass.view_is i, sym c.self.view_is i)) c.requires.left)

@@ -15,10 +15,12 @@ store-requires c =
     let same = ap (λ p. p.view.plan) c.pass.view_is ∙ c.requires.pass.same_plan ∙ sym (ap (λ t. t.plan) c.self.view_is) in
     let claims = ap (λ p. p.view.claim) c.pass.view_is ∙ c.requires.shown.claims in
     let within : rank < ranks_of table.plan.now = omega (arith, ap ranks_of same, c.pass.invariant.claim_is rank claims, c.pass.invariant.place_within) in
-    let may = may_store table.plan.now table.board.shared.key table.board.shared.table_id.words table.board.shared.table_id.slots table.pilots.items c.self.invariant
+    let may = may_store table.plan.now table.board.shared.key table.board.shared.table_id.words table.board.shared.table_id.slots table.pilots.items
+    c.self.invariant
     pass.seat.id pass.seat.me c.pilots_from.result rank pilot c.pilots_from.ensures.value
     (subst (λ (p : PassData). Shows p.view rank pilot) (sym c.pass.view_is) c.requires.shown)
-    (subst (λ (x : PassData × TurnTableData). x.0.view.bits ≡ keys_at x.1.plan rank) (λ i. (sym c.pass.view_is i, sym c.self.view_is i)) c.requires.all_set) within in
+    (subst (λ (x : PassData × TurnTableData). x.0.view.bits ≡ keys_at x.1.plan rank)
+    (λ i. (sym c.pass.view_is i, sym c.self.view_is i)) c.requires.all_set) within in
     (ap (λ p. p.table) c.pass.view_is ∙ c.requires.pass.same_table ∙ sym (ap (λ t. t.table) c.self.view_is), may.0, may.1)
 
 pub invariant_of-pass : goal.invariant_of-pass
