@@ -1,5 +1,5 @@
 -- For the crates that search by turns.
-use Rattle.std.proofs.Common.{◌≡◌, ℕ, Bool, true, false, ap, ◌∙◌, sym, subst}
+use Rattle.std.proofs.Common.{◌≡◌, ℕ, Bool, true, false, sym, subst}
 use Rattle.std.specs.Prelude.{cond}
 use Rattle.turn_search.specs.declared.board.View.{View}
 use Rattle.turn_search.specs.Steps.{gets_turn, with_load, with_turn, after_load}

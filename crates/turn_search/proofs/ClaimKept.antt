@@ -1,18 +1,17 @@
 -- A new table, a split and a claim keep the rule.
-use Rattle.std.proofs.Common.{◌≡◌, ◌≢◌, ℕ, ◌+◌, ◌/◌, ◌%◌, ◌^◌, ◌<◌, ◌≤◌, Bool, true, false, ◌||◌, List, [], ◌∷◌, ◌++◌, set, length, replicate, refl}
-use Rattle.std.proofs.Common.{sym, ap, ◌∙◌, subst, ⊎_elim, inl, inr, arith, eqb}
-use Rattle.std.specs.Prelude.{slice_index, slice_set, Option, Some, None, Ok, cond, bit_or, zero, suc}
+use Rattle.std.proofs.Common.{◌≡◌, ◌≢◌, ℕ, ◌+◌, ◌/◌, ◌%◌, ◌^◌, ◌<◌, ◌≤◌, Bool, true, false, ◌||◌, List, [], ◌∷◌, ◌++◌, length, replicate, refl}
+use Rattle.std.proofs.Common.{sym, ap, ◌∙◌, subst, ⊎_elim, arith, eqb}
+use Rattle.std.specs.Prelude.{slice_index, slice_set, Option, Some, None, cond, bit_or, zero, suc}
 use Rattle.std.specs.Int.{bit_at}
 use Rattle.std.specs.FinSet.{contains, empty, contains-empty}
 use Rattle.std.specs.Ordering.{nat_cmp}
-use Rattle.std.proofs.lemmas.Bool.{false_from_ne_true, both_ways, cases_eq, cases_lt}
-use Rattle.std.proofs.lemmas.List.{get_or-set_other, get_or-replicate, get_or_past, length-replicate, set-get_or}
+use Rattle.std.proofs.lemmas.Bool.{both_ways, cases_lt}
+use Rattle.std.proofs.lemmas.List.{get_or-set_other, get_or-replicate, get_or_past, length-replicate}
 use Rattle.std.proofs.lemmas.Nat.Bits.{bit_at-zero}
 use mathlib.Core.Option.{some, some-injective, some-ne-none}
 use mathlib.Core.Option as maybe
-use lib.ListN.{get_elem?}
-use Rattle.atomic_table.specs.Table.{State, Me, step, keeps, stepped, opening, Allows, Splits}
-use Rattle.atomic_table.proofs.Lists.{at_set, set_here, set_else, set_again, at_snoc, at_longer}
+use Rattle.atomic_table.specs.Table.{State, Me, step, keeps, Allows, Splits}
+use Rattle.atomic_table.proofs.Lists.{set_again, at_snoc, at_longer}
 use Rattle.pthash.specs.Search.{SearchPlan, SearchState, is_among, prefix_of}
 use Rattle.word_bits.specs.Bits.{set_bit, is_set}
 use Rattle.word_bits.specs.Laws.{is_set-set_same, is_set-set_stays}
@@ -20,11 +19,11 @@ use Rattle.turn_search.specs.declared.layout.TheConstants.{STOP}
 use Rattle.turn_search.specs.declared.board.View.{View}
 use Rattle.turn_search.specs.Words.{ranks_of, turn_word, turn_in, is_claimed, is_taken, pilot_in, word_count, pilots_from, bits_from}
 use Rattle.turn_search.specs.Looks.{found_taken}
-use Rattle.turn_search.specs.Rule.{pilot_at, front_of, Holder, Knows, Kept}
+use Rattle.turn_search.specs.Rule.{pilot_at, front_of, Knows, Kept}
 use Rattle.turn_search.specs.Steps.{new_view, past_place, with_claim, after_claim}
 use Rattle.turn_search.specs.Told.{ClaimTold}
-use Rattle.turn_search.proofs.WordLemmas.{Grows, grows_same, grows_claim, taken-claim_set}
-use Rattle.turn_search.proofs.Moves.{Stands, not_none, same_rank, unclaimed_idle, holder_stays, knows_stays, Moves, moved, none_held}
+use Rattle.turn_search.proofs.WordLemmas.{Grows, grows_claim, taken-claim_set}
+use Rattle.turn_search.proofs.Moves.{Stands, not_none, same_rank, unclaimed_idle, holder_stays, Moves, moved, none_held}
 
 -- no bits are set yet
 pub among_none : (plan : SearchPlan) (rank : ℕ) (pilot : Option ℕ) (p : ℕ) → is_among (front_of plan rank pilot 0) p ≡ false
@@ -160,7 +159,7 @@ module _ (plan : SearchPlan) (words : List ℕ) (views : List View) (r : Kept pl
   knows_on : (next : View) → next.plan ≡ view.plan → next.place ≡ view.place + 1 → next.holds ≡ false → next.bits ≡ view.bits → next.wrote ≡ view.wrote →
       next.last ≡ view.last → ((p : ℕ) → p < plan.size → found_taken next.looks p ≡ true → is_taken plan words p ≡ true) →
       ((rank : ℕ) → next.claim ≡ Some rank → (turn_in words ≤ rank) × (rank < ranks_of plan) × (is_claimed later rank ≡ true)) →
-          Knows plan later r.state r.bits next
+      Knows plan later r.state r.bits next
   knows_on next same place rests bits wrote last looks claims = record {
     same_plan = same ∙ mine.same_plan;
     place_within = omega (arith, place);
@@ -205,10 +204,13 @@ module _ (plan : SearchPlan) (words : List ℕ) (views : List View) (r : Kept pl
       (knows_on (with_claim view) refl refl idle refl refl refl (λ p below found. absurd (both_ways false refl found))
       (λ rank is.
       let same : view.place ≡ rank = same_rank (with_claim view).claim view.place rank refl is in
-      subst (λ q. (turn_in words ≤ q) × (q < ranks_of plan) × (is_claimed later q ≡ true)) same
-      (⊎_elim (λ (early : view.place < turn_in words). absurd (both_ways (is_claimed words view.place) clear (r.passed view.place early)))
-      (λ (due : turn_in words ≤ view.place). due)
-      (cases_lt view.place (turn_in words)), left, claimed_to view.place (omega arith))))
+      subst (λ q. (turn_in words ≤ q) × (q < ranks_of plan) × (is_claimed later q ≡ true)) same (
+        ⊎_elim (λ (early : view.place < turn_in words). absurd (both_ways (is_claimed words view.place) clear (r.passed view.place early)))
+            (λ (due : turn_in words ≤ view.place). due)
+            (cases_lt view.place (turn_in words)),
+        left,
+        claimed_to view.place (omega arith),
+      )))
       (λ j other rank apart there theirs is.
       let same : view.place ≡ rank = same_rank (with_claim view).claim view.place rank refl is in
       both_ways (is_claimed words view.place) clear (ap (is_claimed words) same ∙ (r.each j other there).claim_set rank theirs))
@@ -224,8 +226,12 @@ pub claim_allowed : (plan : SearchPlan) (slots id : ℕ) (me : Me (Unit {0}) Vie
     Allows (λ (s : State (Unit {0}) View). Kept plan s.words s.views) slots id me (1 + me.0.place / 64) (λ n. bit_or n mask)
     (ClaimTold (step slots (1 + me.0.place / 64) mask 0 maybe.none) me)
 claim_allowed plan slots id me mask none left is s r deep here fits =
-    let found : ℕ = slice_index s.words (1 + me.0.place / 64) in
-    (after_claim me.0 found, keeps, tt,
-    subst (λ m. Kept plan (slice_set s.words (1 + me.0.place / 64) (bit_or found m)) (slice_set s.views id (after_claim me.0 found))) (sym is)
-    (moved plan s.words s.views r id (set_bit s.words 1 me.0.place) r.bits (after_claim me.0 found)
-    (claim_moves plan s.words s.views r id me.0 here none left (is_claimed s.words me.0.place) refl)), refl)
+    let found : ℕ = slice_index s.words (1 + me.0.place / 64) in (
+      after_claim me.0 found,
+      keeps,
+      tt,
+      subst (λ m. Kept plan (slice_set s.words (1 + me.0.place / 64) (bit_or found m)) (slice_set s.views id (after_claim me.0 found))) (sym is)
+          (moved plan s.words s.views r id (set_bit s.words 1 me.0.place) r.bits (after_claim me.0 found)
+          (claim_moves plan s.words s.views r id me.0 here none left (is_claimed s.words me.0.place) refl)),
+      refl,
+    )

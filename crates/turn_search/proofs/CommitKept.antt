@@ -1,31 +1,29 @@
 -- A bit more, and the store of the pilot, keep the rule.
-use Rattle.std.proofs.Common.{◌≡◌, ◌≢◌, ℕ, ◌+◌, ◌/◌, ◌%◌, ◌^◌, ◌<◌, ◌≤◌, Bool, true, false, ◌||◌, List, [], ◌∷◌, ◌++◌, length, take, refl, sym, ap}
-use Rattle.std.proofs.Common.{◌∙◌, subst, ⊎_elim, inl, inr, arith, eqb}
-use Rattle.std.specs.Prelude.{slice_index, slice_set, Option, Some, None, bit_or, nat_eq}
+use Rattle.std.proofs.Common.{◌≡◌, ◌≢◌, ℕ, ◌+◌, ◌/◌, ◌%◌, ◌^◌, ◌<◌, ◌≤◌, Bool, true, false, ◌||◌, List, [], ◌∷◌, take, refl, sym, ap}
+use Rattle.std.proofs.Common.{◌∙◌, subst, ⊎_elim, arith}
+use Rattle.std.specs.Prelude.{slice_index, slice_set, Some, None, bit_or, nat_eq}
 use Rattle.std.specs.FinSet.{contains}
 use Rattle.std.proofs.Math.Bool.{or-false}
-use Rattle.std.proofs.lemmas.Bool.{false_from_ne_true, both_ways, cases_eq, eq-eqb, ne_eqb, or_right}
-use Rattle.std.proofs.lemmas.List.{take_more, get_or-set_same, get_or-set_other, length-map}
+use Rattle.std.proofs.lemmas.Bool.{both_ways, cases_eq, eq-eqb, ne_eqb}
+use Rattle.std.proofs.lemmas.List.{take_more, get_or-set_same, get_or-set_other}
 use Rattle.std.proofs.lemmas.List.Folds.{list_any-append}
-use Rattle.std.proofs.lemmas.List.Sums.{AllPass-from_list_all}
 use mathlib.Core.Option as maybe
 use Rattle.atomic_table.specs.Table.{State, Me, step, keeps, Allows}
 use Rattle.atomic_table.proofs.Lists.{set_here}
-use Rattle.pthash.specs.Order.{bucket_at}
-use Rattle.pthash.specs.Search.{SearchPlan, SearchState, is_among, position_of}
+use Rattle.pthash.specs.Search.{SearchPlan, is_among}
 use Rattle.pthash.specs.SearchLaws.{positions_at}
 use Rattle.word_bits.specs.Bits.{set_bit}
 use Rattle.word_bits.specs.Laws.{is_set-set_same, is_set-set_other}
 use Rattle.turn_search.specs.declared.layout.TheConstants.{STOP}
 use Rattle.turn_search.specs.declared.board.View.{View}
-use Rattle.turn_search.specs.Words.{ranks_of, turn_word, turn_in, is_taken, pilot_in, bits_from, pilots_from}
-use Rattle.turn_search.specs.Looks.{found_taken, SeesState, Shows}
+use Rattle.turn_search.specs.Words.{ranks_of, turn_in, is_taken, pilot_in, bits_from, pilots_from}
+use Rattle.turn_search.specs.Looks.{found_taken, Shows}
 use Rattle.turn_search.specs.Rule.{pilot_at, front_of, keys_at, Holder, Knows, Kept}
 use Rattle.turn_search.specs.Steps.{after_bit, after_store}
 use Rattle.turn_search.specs.Told.{BitTold, StoreTold}
 use Rattle.turn_search.proofs.WordLemmas.{Grows, grows_bit, grows_pilot, is_set-other_word}
 use Rattle.turn_search.proofs.LookLemmas.{shown_is_pilot, length-positions_at, position_below}
-use Rattle.turn_search.proofs.Moves.{Stands, stands_within, not_none, same_rank, others_idle, knows_stays, Moves, moved}
+use Rattle.turn_search.proofs.Moves.{Stands, stands_within, not_none, same_rank, others_idle, Moves, moved}
 
 -- a front that gains the next position
 among_more : (plan : SearchPlan) (rank k count p : ℕ) → count < keys_at plan rank →
@@ -79,7 +77,7 @@ module _ (plan : SearchPlan) (room : 1 ≤ plan.size) (words : List ℕ) (views 
       ((p : ℕ) → p < plan.size → is_taken plan later p ≡ (contains r.state.taken p || is_among
       (front_of plan (turn_in words) (pilot_at plan r.state (turn_in words)) bits) p)) →
       ((q : ℕ) → q < turn_in words → pilot_in plan later q ≡ pilot_in plan words q) → Knows plan later r.state bits next →
-          Moves plan words views r id later bits next
+      Moves plan words views r id later bits next
   moves_on next later bits grows claim held taken pilots knows = record {
     grows = grows;
     pilots = pilots;
@@ -202,18 +200,26 @@ pub bit_allowed : (plan : SearchPlan) (slots id rank k mask : ℕ) (me : Me (Uni
 bit_allowed plan slots id rank k mask me room shows left quiet is s r deep here fits =
     let position : ℕ = slice_index (positions_at plan rank k) me.0.bits in
     let word : ℕ = bits_from plan + position / 64 in
-    let after : View = after_bit me.0 in
-    (after, keeps, tt,
-    subst (λ m. Kept plan (slice_set s.words word (bit_or (slice_index s.words word) m)) (slice_set s.views id after)) (sym is)
-    (moved plan s.words s.views r id (set_bit s.words (bits_from plan) position) (me.0.bits + 1) after
-    (bit_moves plan room s.words s.views r id me.0 here rank k shows left quiet)), refl)
+    let after : View = after_bit me.0 in (
+      after,
+      keeps,
+      tt,
+      subst (λ m. Kept plan (slice_set s.words word (bit_or (slice_index s.words word) m)) (slice_set s.views id after)) (sym is)
+          (moved plan s.words s.views r id (set_bit s.words (bits_from plan) position) (me.0.bits + 1) after
+          (bit_moves plan room s.words s.views r id me.0 here rank k shows left quiet)),
+      refl,
+    )
 
 -- kind 6
 pub store_allowed : (plan : SearchPlan) (slots id rank k : ℕ) (me : Me (Unit {0}) View) → 1 ≤ plan.size → Shows me.0 rank k → me.0.bits ≡ keys_at plan rank →
     Allows (λ (s : State (Unit {0}) View). Kept plan s.words s.views) slots id me (pilots_from plan + rank) (λ _. k)
     (λ _. StoreTold (step slots (pilots_from plan + rank) k 0 maybe.none) me k)
 store_allowed plan slots id rank k me room shows full s r deep here fits =
-    let after : View = after_store me.0 in
-    (after, keeps, tt,
-    moved plan s.words s.views r id (slice_set s.words (pilots_from plan + rank) k) r.bits after
-    (store_moves plan room s.words s.views r id me.0 here rank k shows full), refl)
+    let after : View = after_store me.0 in (
+      after,
+      keeps,
+      tt,
+      moved plan s.words s.views r id (slice_set s.words (pilots_from plan + rank) k) r.bits after
+          (store_moves plan room s.words s.views r id me.0 here rank k shows full),
+      refl,
+    )

@@ -1,17 +1,17 @@
 -- What the words of a closed table say.
-use Rattle.std.proofs.Common.{◌≡◌, ℕ, zero, suc, ◌+◌, ◌-◌, ◌<◌, ◌≤◌, List, [], ◌∷◌, length, take, drop, get_or, refl, sym, ap, ◌∙◌, subst, arith}
-use Rattle.std.specs.Prelude.{slice_index, Ok, Err, None}
+use Rattle.std.proofs.Common.{◌≡◌, ℕ, zero, suc, ◌+◌, List, [], ◌∷◌, length, take, drop, get_or, sym, ap, ◌∙◌, subst, arith}
+use Rattle.std.specs.Prelude.{Err}
 use Rattle.std.proofs.lemmas.List.{length-drop, get_or-drop, get_or-take, length-take-le, ext_get_or}
 use mathlib.Core.Option.{some, some-injective, some-ne-none}
 use lib.ListN.{get_elem?}
-use Rattle.pthash.specs.Search.{SearchPlan, SearchState, prefix_of, search_of}
+use Rattle.pthash.specs.Search.{SearchPlan, prefix_of, search_of}
 use Rattle.pthash.specs.SearchLaws.{stuck_stays}
 use Rattle.pthash.specs.PrefixLaws.{length-pilots}
 use Rattle.pilot_search.specs.Outcome.{AreFirstPilots}
 use Rattle.turn_search.specs.declared.board.View.{View}
 use Rattle.turn_search.specs.declared.closing.Ended.{Ended}
-use Rattle.turn_search.specs.Words.{ranks_of, turn_of, HasStop, turn_word, turn_in, pilot_in, pilots_from}
-use Rattle.turn_search.specs.Rule.{pilot_at, Kept}
+use Rattle.turn_search.specs.Words.{ranks_of, HasStop, turn_word, turn_in, pilots_from}
+use Rattle.turn_search.specs.Rule.{Kept}
 use Rattle.turn_search.specs.Passes.{TurnTableData}
 use Rattle.turn_search.specs.Closings.{stuck_in, IsEndOf}
 use Rattle.turn_search.proofs.TurnKept.{prefix_of-stuck}

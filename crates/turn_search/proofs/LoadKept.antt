@@ -1,12 +1,11 @@
 -- A load of the turn word, and a load of a word of the positions' bits, keep the rule.
-use Rattle.std.proofs.Common.{◌≡◌, ◌≢◌, ℕ, ◌+◌, ◌-◌, ◌/◌, ◌%◌, ◌<◌, ◌≤◌, Bool, true, false, ◌&&◌, ◌||◌, List, [], ◌∷◌, ◌++◌, length, drop, refl, sym}
-use Rattle.std.proofs.Common.{ap, ◌∙◌, subst, ⊎_elim, inl, inr, arith, eqb}
+use Rattle.std.proofs.Common.{◌≡◌, ℕ, ◌+◌, ◌-◌, ◌/◌, ◌%◌, ◌<◌, Bool, true, false, ◌&&◌, ◌||◌, List, [], ◌∷◌, ◌++◌, length, drop, refl, sym}
+use Rattle.std.proofs.Common.{ap, ◌∙◌, subst, arith, eqb}
 use Rattle.std.specs.Prelude.{slice_index, slice_set, Option, Some, None, cond, nat_lt, not, ◌==◌}
 use Rattle.std.specs.Int.{bit_at}
-use Rattle.std.specs.List.{list_any}
 use Rattle.std.specs.FinSet.{contains}
 use Rattle.std.proofs.Math.Bool.{or-false}
-use Rattle.std.proofs.lemmas.Bool.{false_from_ne_true, both_ways, and_parts, or_parts, or_from, not-true, ltb-true, eqb-true, cases_lt}
+use Rattle.std.proofs.lemmas.Bool.{false_from_ne_true, both_ways, and_parts, not-true, ltb-true, eqb-true}
 use Rattle.std.proofs.lemmas.List.{set-get_or, length-append, drop-append-le, drop_all}
 use Rattle.std.proofs.lemmas.List.Folds.{list_any-append}
 use mathlib.Core.Option.{some-injective}
@@ -14,17 +13,17 @@ use mathlib.Core.Option as maybe
 use lib.ListN.{get_elem?}
 use Rattle.atomic_table.specs.Table.{State, Me, step, keeps, Allows}
 use Rattle.atomic_table.proofs.Lists.{set_here}
-use Rattle.pthash.specs.Search.{SearchPlan, SearchState, is_among, prefix_of}
+use Rattle.pthash.specs.Search.{SearchPlan, is_among}
 use Rattle.turn_search.specs.declared.layout.TheConstants.{STOP}
 use Rattle.turn_search.specs.declared.board.Look.{Look}
 use Rattle.turn_search.specs.declared.board.View.{View}
-use Rattle.turn_search.specs.Words.{ranks_of, turn_of, turn_word, turn_in, is_taken, bits_from, words_for}
-use Rattle.turn_search.specs.Looks.{found_taken, found_free, late_looks, SeesState, HasTurn}
+use Rattle.turn_search.specs.Words.{turn_word, turn_in, is_taken, bits_from}
+use Rattle.turn_search.specs.Looks.{found_taken, found_free, late_looks, SeesState}
 use Rattle.turn_search.specs.Rule.{pilot_at, front_of, Holder, Knows, Kept}
 use Rattle.turn_search.specs.Steps.{is_claim, gets_turn, with_load, with_turn, after_load, after_look}
 use Rattle.turn_search.specs.Told.{HasTurnIfHeld, LoadTold, LookTold}
-use Rattle.turn_search.proofs.WordLemmas.{Grows, grows_same}
-use Rattle.turn_search.proofs.Moves.{Stands, stands_within, not_none, same_rank, others_idle, Moves, moved, none_held}
+use Rattle.turn_search.proofs.WordLemmas.{grows_same}
+use Rattle.turn_search.proofs.Moves.{Stands, stands_within, Moves, moved, none_held}
 use Rattle.turn_search.proofs.ClaimKept.{among_none}
 
 -- a view that claims a rank by the test claims it
@@ -78,7 +77,7 @@ module _ (plan : SearchPlan) (words : List ℕ) (views : List View) (r : Kept pl
   knows_loaded : (next : View) → next.plan ≡ view.plan → next.place ≡ view.place → next.claim ≡ view.claim → next.looks ≡ view.looks →
       next.last ≡ turn_word words →
       (next.holds ≡ true → Holder plan words r.state r.bits next) → (next.holds ≡ false → (next.bits ≡ 0) × (next.wrote ≡ false)) →
-          Knows plan words r.state r.bits next
+      Knows plan words r.state r.bits next
   knows_loaded next same place claim looks last holder rests = record {
     same_plan = same ∙ mine.same_plan;
     place_within = omega (arith, place, mine.place_within);

@@ -1,9 +1,9 @@
 -- What the looks of a view say of pilots.
-use Rattle.std.proofs.Common.{◌≡◌, ℕ, ◌<◌, ◌≤◌, ◌%◌, Bool, true, false, ◌&&◌, List, [], ◌∷◌, refl, sym, ap, ◌∙◌, arith, subst}
+use Rattle.std.proofs.Common.{◌≡◌, ℕ, ◌<◌, ◌≤◌, Bool, true, false, List, [], ◌∷◌, refl, arith}
 use Rattle.std.specs.Prelude.{not, nat_lt, None, Some, length, slice_index}
 use Rattle.std.specs.List.{list_all}
 use Rattle.std.specs.FinSet.{contains}
-use Rattle.std.proofs.lemmas.Bool.{and_parts, and_from, and_right, not_from_false, not-true, ltb-true, both_ways, false_from_ne_true}
+use Rattle.std.proofs.lemmas.Bool.{and_parts, and_from, not_from_false, not-true, ltb-true, both_ways, false_from_ne_true}
 use Rattle.std.proofs.lemmas.List.{length-map}
 use Rattle.std.proofs.lemmas.List.Sums.{AllPass-from_list_all}
 use Rattle.pthash.specs.Order.{bucket_at}
@@ -11,7 +11,7 @@ use Rattle.pthash.specs.Search.{SearchPlan, SearchState, fits, is_distinct, posi
 use Rattle.pthash.specs.SearchLaws.{positions_at, fits_at, are_in_table, positions_in_table}
 use Rattle.pthash.specs.Least.{FailsBelow, least_below-found, least_below-none}
 use Rattle.turn_search.specs.declared.board.View.{View}
-use Rattle.turn_search.specs.Looks.{found_taken, found_free, late_looks, RejectsBelow, IsCandidateBy, Shows, SeesState, HasTurn}
+use Rattle.turn_search.specs.Looks.{found_taken, found_free, late_looks, RejectsBelow, Shows, SeesState}
 use Rattle.turn_search.specs.Rule.{pilot_at, keys_at}
 
 -- positions of the table that are free where more is taken are free where less is

@@ -1,28 +1,25 @@
 -- What looks that come to a view leave of what it found, and add to it.
 use Rattle.std.proofs.Common.{◌≡◌, ℕ, ◌+◌, ◌/◌, ◌%◌, ◌<◌, ◌≤◌, Bool, true, false, ◌&&◌, ◌||◌, List, [], ◌∷◌, ◌++◌, length, take, drop, refl, sym, ap}
 use Rattle.std.proofs.Common.{◌∙◌, subst, arith, ⊎_elim}
-use Rattle.std.specs.Prelude.{not, nat_eq, nat_lt, ◌==◌, slice_index, bit_xor, map, Some, None, Ok, Err, ◌↔◌}
+use Rattle.std.specs.Prelude.{not, ◌==◌, slice_index, bit_xor, Some, Err, ◌↔◌}
 use Rattle.std.specs.Int.{bit_at}
-use Rattle.std.specs.List.{list_any, list_all}
-use Rattle.std.specs.FinSet.{contains}
+use Rattle.std.specs.List.{list_all}
 use Rattle.std.proofs.Math.Seq.{drop-append_seam}
 use Rattle.std.proofs.Math.Bool.{or-false}
-use Rattle.std.proofs.lemmas.Bool.{and_parts, and_from, and_left, and_right, or_left, or_right, not-true, not_from_true, both_ways}
+use Rattle.std.proofs.lemmas.Bool.{and_parts, and_from, or_left, or_right, not_from_true, both_ways}
 use Rattle.std.proofs.lemmas.Bool.{false_from_ne_true, eq-eqb, cases_lt}
 use Rattle.std.proofs.lemmas.List.{append-nil, append_assoc, drop-append-le, take_more, length-map, get_or-map, map-append}
 use Rattle.std.proofs.lemmas.List.Folds.{list_any-append, list_all-append}
 use Rattle.std.proofs.lemmas.List.Sums.{AllPass-from_list_all}
-use Rattle.pthash.specs.Search.{SearchPlan, SearchState, is_distinct, prefix_of}
+use Rattle.pthash.specs.Search.{SearchPlan, prefix_of}
 use Rattle.pthash.specs.SearchLaws.{positions_at, fits_at, TakesMore, pilot_fits-more}
 use Rattle.pthash.specs.Order.{bucket_at}
-use Rattle.pthash.specs.Least.{FailsBelow}
 use Rattle.pilot_search.specs.Table.{positions_under}
 use Rattle.turn_search.specs.declared.board.Look.{Look}
 use Rattle.turn_search.specs.declared.board.View.{View}
 use Rattle.turn_search.specs.declared.trying.Spec.{Spec}
 use Rattle.turn_search.specs.declared.trying.Spec.TheVariants.{Found, AllRejected}
 use Rattle.turn_search.specs.Looks.{found_taken, found_free, late_looks, RejectsBelow, IsCandidateBy, Shows, HasTurn}
-use Rattle.turn_search.specs.Steps.{after_look}
 use Rattle.turn_search.specs.Told.{HasTurnIfHeld}
 use Rattle.turn_search.specs.Passes.{CandidateData, LooksAt, OnlyLooked, IsOfRank, IsPilotOf, new_looks}
 use Rattle.turn_search.proofs.LookLemmas.{shown_is_pilot, rejected_has_none}

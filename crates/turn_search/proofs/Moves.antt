@@ -1,16 +1,16 @@
 -- A step that leaves the turn word and the state of the search keeps the rule.
-use Rattle.std.proofs.Common.{◌≡◌, ◌≢◌, ℕ, ◌+◌, ◌%◌, ◌<◌, ◌≤◌, Bool, true, false, ◌||◌, List, [], ◌∷◌, ◌++◌, set, refl, sym, ap, ◌∙◌, subst, ⊎_elim}
-use Rattle.std.proofs.Common.{inl, inr, arith}
-use Rattle.std.specs.Prelude.{zero, suc, length, slice_index, slice_set, Option, Some, None}
+use Rattle.std.proofs.Common.{◌≡◌, ◌≢◌, ℕ, ◌%◌, ◌<◌, true, false, ◌||◌, List, [], ◌∷◌, sym, ap, ◌∙◌, subst, ⊎_elim}
+use Rattle.std.proofs.Common.{arith}
+use Rattle.std.specs.Prelude.{zero, suc, length, slice_set, Option, Some, None}
 use Rattle.std.specs.FinSet.{contains}
-use Rattle.std.proofs.lemmas.Bool.{false_from_ne_true, both_ways, cases_eq}
+use Rattle.std.proofs.lemmas.Bool.{false_from_ne_true, cases_eq}
 use mathlib.Core.Option.{some, some-injective, some-ne-none}
 use lib.ListN.{get_elem?}
-use Rattle.atomic_table.proofs.Lists.{at_set, set_here, set_else, at_snoc}
-use Rattle.pthash.specs.Search.{SearchPlan, SearchState, is_among, prefix_of}
+use Rattle.atomic_table.proofs.Lists.{at_set, set_else}
+use Rattle.pthash.specs.Search.{SearchPlan, SearchState, is_among}
 use Rattle.turn_search.specs.declared.layout.TheConstants.{STOP}
 use Rattle.turn_search.specs.declared.board.View.{View}
-use Rattle.turn_search.specs.Words.{ranks_of, turn_word, turn_in, is_claimed, is_taken, pilot_in}
+use Rattle.turn_search.specs.Words.{turn_in, is_taken, pilot_in}
 use Rattle.turn_search.specs.Rule.{pilot_at, front_of, Holder, Knows, Kept}
 use Rattle.turn_search.proofs.WordLemmas.{Grows}
 
@@ -82,7 +82,7 @@ pub record Moves (plan : SearchPlan) (words : List ℕ) (views : List View) (r :
   pub grows : Grows plan words later
   pub pilots : (rank : ℕ) → rank < turn_in words → pilot_in plan later rank ≡ pilot_in plan words rank
   pub taken : (p : ℕ) → p < plan.size → is_taken plan later p
-    ≡ (contains r.state.taken p || is_among (front_of plan (turn_in words) (pilot_at plan r.state (turn_in words)) bits) p)
+      ≡ (contains r.state.taken p || is_among (front_of plan (turn_in words) (pilot_at plan r.state (turn_in words)) bits) p)
   pub unheld : ((i : ℕ) (other : View) → Stands (slice_set views id view) i other → other.holds ≡ false) → bits ≡ 0
   pub mine : Knows plan later r.state bits view
   pub others : (j : ℕ) (other : View) → j ≢ id → Stands views j other → other.holds ≡ true → Holder plan later r.state bits other

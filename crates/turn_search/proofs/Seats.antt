@@ -1,5 +1,5 @@
 -- What each kind of step asks of a seat of a table, and what it leaves a pass.
-use Rattle.std.proofs.Common.{◌≡◌, ◌≢◌, ℕ, ◌+◌, ◌-◌, ◌*◌, ◌/◌, ◌%◌, ◌^◌, ◌<◌, ◌≤◌, Bool, true, false, List, [], ◌∷◌, ◌++◌, length, refl, sym, ap, ◌∙◌}
+use Rattle.std.proofs.Common.{◌≡◌, ℕ, ◌+◌, ◌/◌, ◌%◌, ◌^◌, ◌<◌, ◌≤◌, Bool, true, false, List, refl, sym, ap, ◌∙◌}
 use Rattle.std.proofs.Common.{subst, arith}
 use Rattle.std.specs.Prelude.{slice_index, drop, Some, None, cond, bit_or, ◌==◌, ◌&&◌, not, nat_lt}
 use Rattle.std.specs.Int.{bit_at}
@@ -8,7 +8,6 @@ use mathlib.Core.Option as maybe
 use Rattle.atomic_table.specs.Table.{State, Me, step, Allows}
 use Rattle.pthash.specs.Search.{SearchPlan}
 use Rattle.pthash.specs.SearchLaws.{positions_at}
-use Rattle.word_bits.specs.Laws.{one_shl-word}
 use Rattle.turn_search.specs.declared.layout.TheConstants.{STOP}
 use Rattle.turn_search.specs.declared.board.Look.{Look}
 use Rattle.turn_search.specs.declared.board.View.{View}
@@ -37,7 +36,7 @@ module _ (plan key : SearchPlan) (words slots : ℕ) (pilots : List ℕ) (laid :
   may_claim place mask at none left is = (
     omega (arith, laid.words_are),
     subst (λ k. Allows (Keeps k) slots id me (1 + place / 64) (λ n. bit_or n mask) (ClaimTold (step slots (1 + place / 64) mask 0 maybe.none) me))
-    (sym laid.same_key)
+        (sym laid.same_key)
         (subst (λ p. Allows (Keeps plan) slots id me (1 + p / 64) (λ n. bit_or n mask) (ClaimTold (step slots (1 + p / 64) mask 0 maybe.none) me)) at
         (claim_allowed plan slots id me mask none (omega (arith, at)) (is ∙ ap (λ p. 2 ^ (p % 64)) (sym at)))),
   )
@@ -53,7 +52,7 @@ module _ (plan key : SearchPlan) (words slots : ℕ) (pilots : List ℕ) (laid :
       subst (λ f. (f + word < words) × Allows (Keeps key) slots id me (f + word) (λ n. n) (LookTold (step slots (f + word) 0 0 maybe.none) me)) (sym from) (
         omega (arith, laid.words_are),
         subst (λ k. Allows (Keeps k) slots id me (bits_from plan + word) (λ n. n) (LookTold (step slots (bits_from plan + word) 0 0 maybe.none) me))
-        (sym laid.same_key)
+            (sym laid.same_key)
             (look_allowed plan slots id word me same zero),
       )
 
@@ -68,7 +67,7 @@ module _ (plan key : SearchPlan) (words slots : ℕ) (pilots : List ℕ) (laid :
       (BitTold (step slots (f + position / 64) mask 0 maybe.none) me)) (sym from) (
         omega (arith, laid.words_are),
         subst (λ q. Allows (Keeps q) slots id me (bits_from plan + position / 64) (λ n. bit_or n mask)
-        (BitTold (step slots (bits_from plan + position / 64) mask 0 maybe.none) me))
+            (BitTold (step slots (bits_from plan + position / 64) mask 0 maybe.none) me))
             (sym laid.same_key)
             (subst (λ p. Allows (Keeps plan) slots id me (bits_from plan + p / 64) (λ n. bit_or n mask)
             (BitTold (step slots (bits_from plan + p / 64) mask 0 maybe.none) me)) (sym here)
@@ -83,7 +82,7 @@ module _ (plan key : SearchPlan) (words slots : ℕ) (pilots : List ℕ) (laid :
       (sym from) (
         omega (arith, laid.words_are),
         subst (λ q. Allows (Keeps q) slots id me (pilots_from plan + rank) (λ _. k)
-        (λ _. StoreTold (step slots (pilots_from plan + rank) k 0 maybe.none) me k)) (sym laid.same_key)
+            (λ _. StoreTold (step slots (pilots_from plan + rank) k 0 maybe.none) me k)) (sym laid.same_key)
             (store_allowed plan slots id rank k me laid.searchable.has_position shows full),
       )
 

@@ -1,7 +1,7 @@
 -- Passing the turn on, and stopping, keep the rule.
-use Rattle.std.proofs.Common.{◌≡◌, ◌≢◌, ℕ, ◌+◌, ◌%◌, ◌<◌, ◌≤◌, Bool, true, false, ◌||◌, List, [], ◌∷◌, ◌++◌, length, take, refl, sym, ap, ◌∙◌, subst}
-use Rattle.std.proofs.Common.{⊎_elim, inl, inr, arith, add-one}
-use Rattle.std.specs.Prelude.{suc, slice_index, slice_set, Option, Some, None, Ok, Err, ◌-◌, ◌^◌, bit_or}
+use Rattle.std.proofs.Common.{◌≡◌, ◌≢◌, ℕ, ◌+◌, ◌%◌, ◌<◌, ◌≤◌, true, false, ◌||◌, List, [], ◌∷◌, ◌++◌, length, take, refl, sym, ap, ◌∙◌, subst}
+use Rattle.std.proofs.Common.{⊎_elim, arith, add-one}
+use Rattle.std.specs.Prelude.{slice_index, slice_set, Some, None, Ok, Err, ◌-◌, ◌^◌, bit_or}
 use Rattle.std.specs.FinSet.{contains}
 use Rattle.std.proofs.Math.Bool.{or-false}
 use Rattle.std.proofs.lemmas.Bool.{both_ways, cases_lt, false_from_ne_true}
@@ -84,7 +84,7 @@ module _ (plan : SearchPlan) (small : ranks_of plan < STOP) (words : List ℕ) (
   mine_after : (value : ℕ) (state : SearchState) (next : View) → turn ≤ turn_of value → next.plan ≡ view.plan → next.place ≡ view.place → next.holds ≡ false →
       next.last ≡ value → next.bits ≡ 0 → next.wrote ≡ false → ((p : ℕ) → p < plan.size → found_taken next.looks p ≡ true → is_taken plan words p ≡ true) →
       ((rank : ℕ) → next.claim ≡ Some rank → (turn_of value ≤ rank) × (rank < ranks_of plan) × (is_claimed words rank ≡ true)) →
-          Knows plan (slice_set words 0 value) state 0 next
+      Knows plan (slice_set words 0 value) state 0 next
   mine_after value state next on same place rests last bits wrote looks claims =
       let now : turn_word (slice_set words 0 value) ≡ value = get_or-set_same words 0 value 0 (omega (arith, r.count)) in
       record {

@@ -1,5 +1,5 @@
 -- What a step on one word leaves of the others.
-use Rattle.std.proofs.Common.{◌≡◌, ◌≢◌, ℕ, ◌+◌, ◌/◌, ◌%◌, ◌^◌, ◌<◌, ◌≤◌, List, length, set, true, refl, sym, ap, ◌∙◌, arith, eqb}
+use Rattle.std.proofs.Common.{◌≡◌, ◌≢◌, ℕ, ◌+◌, ◌/◌, ◌%◌, ◌^◌, ◌<◌, List, length, true, refl, ap, ◌∙◌, arith, eqb}
 use Rattle.std.specs.Prelude.{slice_index, slice_set, bit_or}
 use Rattle.std.specs.Int.{bit_at}
 use Rattle.std.proofs.lemmas.List.{get_or-set_other, length-set}
@@ -8,7 +8,7 @@ use Rattle.pthash.specs.Search.{SearchPlan}
 use Rattle.word_bits.specs.Bits.{word_of, is_set, set_bit}
 use Rattle.word_bits.specs.Laws.{is_set-set_stays, length-set_bit}
 use Rattle.turn_search.specs.declared.layout.TheConstants.{STOP}
-use Rattle.turn_search.specs.Words.{ranks_of, bits_from, pilots_from, word_count, turn_word, turn_in, is_claimed, is_taken, pilot_in}
+use Rattle.turn_search.specs.Words.{ranks_of, bits_from, pilots_from, turn_word, is_claimed, is_taken, pilot_in}
 
 -- a bit of another word
 pub is_set-other_word : (words : List ℕ) (i x first q : ℕ) → word_of first q ≢ i → is_set (slice_set words i x) first q ≡ is_set words first q

@@ -1,5 +1,5 @@
 -- What `claim` and `look` answer, by the view afterwards.
-use Rattle.std.specs.Prelude.{◌≡◌, ℕ, ◌&&◌, nat_lt, cond, not, Option, Some, None}
+use Rattle.std.specs.Prelude.{ℕ, nat_lt, cond, Option, Some, None}
 use Rattle.turn_search.specs.declared.layout.TheConstants.{STOP}
 use Rattle.turn_search.specs.declared.board.View.{View}
 use Rattle.turn_search.specs.declared.claiming.Claim.{Claim}

@@ -1,5 +1,5 @@
 -- The rule of a table: what is true between any two steps, of the words and of what each pass knows.
-use Rattle.std.specs.Prelude.{◌≡◌, ◌≢◌, ℕ, ◌+◌, ◌<◌, ◌≤◌, Bool, true, false, ◌||◌, List, [], length, take, slice_index, Option, Some, None, Ok}
+use Rattle.std.specs.Prelude.{◌≡◌, ◌≢◌, ℕ, ◌<◌, ◌≤◌, true, false, ◌||◌, List, [], length, take, slice_index, Option, Some, None, Ok}
 use Rattle.std.specs.FinSet.{contains}
 use Rattle.pthash.specs.Order.{bucket_at}
 use Rattle.pthash.specs.Search.{SearchPlan, SearchState, is_among, least_below, prefix_of}
@@ -59,10 +59,10 @@ pub record Kept (plan : SearchPlan) (words : List ℕ) (views : List View) : Typ
   pub passed : (rank : ℕ) → rank < turn_in words → is_claimed words rank ≡ true
   pub pilots : (rank : ℕ) → rank < turn_in words → pilot_in plan words rank ≡ slice_index state.pilots rank
   pub taken : (p : ℕ) → p < plan.size → is_taken plan words p
-    ≡ (contains state.taken p || is_among (front_of plan (turn_in words) (pilot_at plan state (turn_in words)) bits) p)
+      ≡ (contains state.taken p || is_among (front_of plan (turn_in words) (pilot_at plan state (turn_in words)) bits) p)
   pub stop_below : HasStop (turn_word words) → turn_in words < ranks_of plan
   pub stop_stuck : HasStop (turn_word words) → pilot_at plan state (turn_in words) ≡ None
   pub unheld : ((i : ℕ) (view : View) → get_elem? views i ≡ some view → view.holds ≡ false) → bits ≡ 0
   pub each : (i : ℕ) (view : View) → get_elem? views i ≡ some view → Knows plan words state bits view
   pub alone : (i j : ℕ) (one two : View) (rank : ℕ) → get_elem? views i ≡ some one → get_elem? views j ≡ some two →
-    one.claim ≡ Some rank → two.claim ≡ Some rank → i ≡ j
+      one.claim ≡ Some rank → two.claim ≡ Some rank → i ≡ j

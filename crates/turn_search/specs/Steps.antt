@@ -1,15 +1,11 @@
 -- The eight kinds of step: when a view may take one, and the view afterwards.
-use Rattle.std.specs.Prelude.{◌≡◌, ℕ, ◌+◌, ◌-◌, ◌<◌, ◌%◌, Bool, true, false, not, ◌&&◌, ◌==◌, cond, nat_lt, List, [], ◌∷◌, ◌++◌, length}
-use Rattle.std.specs.Prelude.{Option, Some, None, slice_index}
+use Rattle.std.specs.Prelude.{ℕ, ◌+◌, ◌%◌, Bool, true, false, not, ◌&&◌, ◌==◌, cond, nat_lt, [], ◌∷◌, ◌++◌, length}
+use Rattle.std.specs.Prelude.{Option, Some, None}
 use Rattle.std.specs.Int.{bit_at}
 use Rattle.pthash.specs.Search.{SearchPlan}
-use Rattle.pthash.specs.SearchLaws.{positions_at}
-use Rattle.atomic_table.specs.Table.{Me, Step}
 use Rattle.turn_search.specs.declared.layout.TheConstants.{STOP}
-use Rattle.turn_search.specs.declared.board.Look.{Look}
 use Rattle.turn_search.specs.declared.board.View.{View}
-use Rattle.turn_search.specs.Words.{bits_from, turn_of, HasStop}
-use Rattle.turn_search.specs.Looks.{HasTurn}
+use Rattle.turn_search.specs.Words.{turn_of}
 
 -- a view that knows the plan and a value of the turn word, and nothing else
 abbrev pub new_view : SearchPlan → ℕ → View

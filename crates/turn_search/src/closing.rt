@@ -48,7 +48,11 @@ impl<'a> TurnTable<'a> {
 fn stuck_in(last: u64) -> Option<u64>
     ensures { result ≡ stuck_in last }
 {
-    if last >= STOP { Some(last % STOP) } else { None }
+    if last >= STOP {
+        Some(last % STOP)
+    } else {
+        None
+    }
 }
 
 // Copies the words of the first pilots.

@@ -109,6 +109,8 @@ impl<'a> TurnTable<'a> {
         ensures pass { IsPassOf self.now pass.new }
         ensures view { pass.new.view ≡ after_pass pass.old.view rank }
     {
-        self.board.shared.fetch_add::<PassStep>(&mut pass.seat, 0, 1);
+        self.board
+            .shared
+            .fetch_add::<PassStep>(&mut pass.seat, 0, 1);
     }
 }

@@ -124,7 +124,10 @@ fn two_buckets_get_their_pilots_in_turn(rt: HostRuntime) -> Result<(), Fail> {
             panic!(rt; "the first bucket has no pilot")
         };
         assert_eq!(rt; take_turn(&table, &mut first, own, &mut scratch), Some(0));
-        assert_eq!(rt; take_turn(&table, &mut second, early, &mut scratch), Some(0));
+        assert_eq!(rt;
+            take_turn(&table, &mut second, early, &mut scratch),
+            Some(0)
+        );
         let ended = table.close(if last_closes { third } else { second });
         assert_eq!(rt; ended.pilots.as_slice(), [0, 0].as_slice());
         assert_eq!(rt; ended.stuck, None);

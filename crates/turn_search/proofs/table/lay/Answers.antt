@@ -1,4 +1,4 @@
-use Rattle.std.proofs.Common.{◌≡◌, ap, ◌∙◌, replicate}
+use Rattle.std.proofs.Common.{ap, ◌∙◌, replicate}
 use Rattle.turn_search.proofs.ClaimKept.{starts}
 use Rattle.turn_search.proofs.table.lay.Goals as goal
 

@@ -1,4 +1,4 @@
-use Rattle.std.proofs.Common.{◌≡◌, ℕ, ◌+◌, ◌<◌, ◌++◌, ◌∷◌, [], ap, sym, ◌∙◌, take, arith}
+use Rattle.std.proofs.Common.{ℕ, ◌++◌, ◌∷◌, [], ap, sym, ◌∙◌, take, arith}
 use Rattle.std.specs.List.{list_all}
 use Rattle.pilot_search.specs.Table.{positions_under}
 use Rattle.turn_search.specs.Looks.{found_taken, found_free}

@@ -1,13 +1,11 @@
-use Rattle.std.proofs.Common.{◌≡◌, ℕ, ◌+◌, ◌-◌, ◌%◌, ◌≤◌, List, take, drop, ap, sym, ◌∙◌, subst, arith, rules}
+use Rattle.std.proofs.Common.{◌≡◌, ℕ, ◌%◌, List, take, drop, ap, sym, ◌∙◌, subst, arith, rules}
 use Rattle.std.proofs.lemmas.Grind.{common_steps}
 use Rattle.std.specs.Slots.{slots_items}
 use mathlib.Core.Option.{some}
 use lib.ListN.{get_elem?}
 use Rattle.turn_search.specs.declared.layout.TheConstants.{STOP}
-use Rattle.turn_search.specs.declared.board.View.{View}
 use Rattle.turn_search.specs.Words.{ranks_of, turn_word, turn_in, pilots_from}
 use Rattle.turn_search.specs.Rule.{Kept}
-use Rattle.turn_search.specs.Passes.{TurnTableData}
 use Rattle.turn_search.specs.Closings.{stuck_in}
 use Rattle.turn_search.proofs.LastState.{read_word, end_of}
 use Rattle.turn_search.proofs.table.TurnTable.close.Goals as goal
@@ -26,7 +24,7 @@ returns c =
     let ranks : c.ranks.result ≡ ranks_of c.args.self.plan = c.ranks.ensures.value ∙ ap (λ t. ranks_of t.plan) c.self.view_is in
     let from : c.pilots_from.result ≡ pilots_from c.args.self.plan = c.pilots_from.ensures.value ∙ ap (λ t. pilots_from t.plan) c.self.view_is in
     let copied : c.truncate.new.self.items ≡ take (c.word-last.result % STOP) (drop c.pilots_from.result words) =
-        (first_of (search rules, grind (arith, common_steps))) in
+    (first_of (search rules, grind (arith, common_steps))) in
     end_of c.args.self key words last.0.views c.pass.inside.seat.id c.args.pass.view _ same kept there
     (copied ∙ ap (λ n. take n (drop c.pilots_from.result words)) (sym turn) ∙ ap (λ f. take (turn_in words) (drop f words)) from)
     (c.stuck_in.ensures ∙ ap stuck_in (sym word))

@@ -1,4 +1,4 @@
-use Rattle.std.proofs.Common.{◌≡◌, ℕ, refl, ◌∙◌}
+use Rattle.std.proofs.Common.{refl, ◌∙◌}
 use Rattle.turn_search.proofs.Looked.{looked_on, rejects_on, rejects_next, candidate_on}
 use Rattle.turn_search.proofs.table.TurnTable.find_from.Goals as goal
 

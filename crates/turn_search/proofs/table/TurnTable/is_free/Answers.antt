@@ -1,4 +1,4 @@
-use Rattle.std.proofs.Common.{◌≡◌, ◌<◌, ◌/◌, ap, sym, ◌∙◌, arith}
+use Rattle.std.proofs.Common.{◌<◌, ◌/◌, ap, sym, ◌∙◌, arith}
 use Rattle.turn_search.specs.Words.{words_for}
 use Rattle.turn_search.proofs.Seats.{may_look}
 use Rattle.turn_search.proofs.table.TurnTable.is_free.Goals as goal

@@ -1,4 +1,4 @@
-use Rattle.std.proofs.Common.{◌≡◌, ◌<◌, true, ap, sym, ◌∙◌, arith, rules}
+use Rattle.std.proofs.Common.{◌≡◌, ◌<◌, ap, ◌∙◌, rules}
 use Rattle.turn_search.specs.Words.{turn_of}
 use Rattle.turn_search.proofs.Seats.{came_turn, has_turn_of}
 use Rattle.turn_search.specs.declared.layout.TheConstants.{STOP}

@@ -1,4 +1,4 @@
-use Rattle.std.proofs.Common.{◌≡◌, ◌<◌, ◌%◌, ap, sym, ◌∙◌, subst, refl, arith}
+use Rattle.std.proofs.Common.{◌≡◌, ◌<◌, ◌%◌, ap, sym, ◌∙◌, subst, arith}
 use Rattle.word_bits.specs.Laws.{one_shl-word}
 use Rattle.pthash.specs.SearchLaws.{positions_at}
 use Rattle.std.specs.Prelude.{slice_index}

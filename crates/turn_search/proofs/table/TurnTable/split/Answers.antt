@@ -1,4 +1,4 @@
-use Rattle.std.proofs.Common.{◌≡◌, ◌<◌, ap, sym, ◌∙◌, arith}
+use Rattle.std.proofs.Common.{ap, sym, ◌∙◌, arith}
 use Rattle.turn_search.proofs.ClaimKept.{split_allowed}
 use Rattle.turn_search.proofs.table.TurnTable.split.Goals as goal
 

@@ -1,4 +1,4 @@
-use Rattle.std.proofs.Common.{◌≡◌, ap, sym, ◌∙◌, subst}
+use Rattle.std.proofs.Common.{ap, sym, ◌∙◌, subst}
 use Rattle.turn_search.specs.Looks.{RejectsBelow}
 use Rattle.turn_search.specs.Passes.{TurnTableData, PassData}
 use Rattle.turn_search.proofs.Seats.{may_stop}

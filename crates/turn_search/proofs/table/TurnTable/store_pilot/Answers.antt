@@ -1,4 +1,4 @@
-use Rattle.std.proofs.Common.{◌≡◌, ◌+◌, ◌<◌, ap, sym, ◌∙◌, subst, arith}
+use Rattle.std.proofs.Common.{◌≡◌, ◌<◌, ap, sym, ◌∙◌, subst, arith}
 use Rattle.turn_search.specs.Words.{ranks_of}
 use Rattle.turn_search.specs.Looks.{Shows}
 use Rattle.turn_search.specs.Rule.{keys_at}

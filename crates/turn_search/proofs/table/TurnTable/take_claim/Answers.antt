@@ -1,5 +1,4 @@
-use Rattle.std.proofs.Common.{◌≡◌, ℕ, ◌+◌, ◌%◌, ◌<◌, ap, sym, ◌∙◌, arith}
-use Rattle.pthash.specs.Search.{SearchPlan}
+use Rattle.std.proofs.Common.{◌≡◌, ◌%◌, ◌<◌, ap, sym, ◌∙◌, arith}
 use Rattle.word_bits.specs.Laws.{one_shl-word}
 use Rattle.turn_search.specs.Words.{ranks_of}
 use Rattle.turn_search.proofs.Seats.{may_claim, seated_on}
@@ -24,6 +23,13 @@ invariant_of-pass c =
     let same : pass.seat.me.0.plan ≡ table.plan.now =
     ap (λ p. p.view.plan) c.pass.view_is ∙ c.requires.pass.same_plan ∙ sym (ap (λ t. t.plan) c.self.view_is) in
     let left : pass.place < ranks_of pass.seat.me.0.plan =
-    omega (arith, ap ranks_of same, c.requires.left, ap (λ t. ranks_of t.plan) c.self.view_is, ap
-    (λ p. p.view.place) c.pass.view_is, c.pass.invariant.place_is) in
+    omega (
+      arith,
+      ap ranks_of same,
+      c.requires.left,
+      ap (λ t. ranks_of t.plan) c.self.view_is,
+      ap
+          (λ p. p.view.place) c.pass.view_is,
+      c.pass.invariant.place_is,
+    ) in
     seated_on pass.seat.me _ pass.place _ c.pass.invariant (ap (λ p. p.view.claim) c.pass.view_is ∙ c.requires.no_claim) left c.fetch_or-found.ensures.2
