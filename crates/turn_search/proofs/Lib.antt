@@ -1,0 +1,11 @@
+pub mod WordLemmas
+pub mod LookLemmas
+pub mod Moves
+pub mod ClaimKept
+pub mod LoadKept
+pub mod CommitKept
+pub mod TurnKept
+pub mod Seats
+pub mod Looked
+pub mod LastState
+pub mod CallerLemmas

@@ -1,0 +1,268 @@
+-- What looks that come to a view leave of what it found, and add to it.
+use Rattle.std.proofs.Common.{◌≡◌, ℕ, ◌+◌, ◌/◌, ◌%◌, ◌<◌, ◌≤◌, Bool, true, false, ◌&&◌, ◌||◌, List, [], ◌∷◌, ◌++◌, length, take, drop, refl, sym, ap}
+use Rattle.std.proofs.Common.{◌∙◌, subst, arith, ⊎_elim}
+use Rattle.std.specs.Prelude.{not, ◌==◌, slice_index, bit_xor, Some, Err, ◌↔◌}
+use Rattle.std.specs.Int.{bit_at}
+use Rattle.std.specs.List.{list_all}
+use Rattle.std.proofs.Math.Seq.{drop-append_seam}
+use Rattle.std.proofs.Math.Bool.{or-false}
+use Rattle.std.proofs.lemmas.Bool.{and_parts, and_from, or_left, or_right, not_from_true, both_ways}
+use Rattle.std.proofs.lemmas.Bool.{false_from_ne_true, eq-eqb, cases_lt}
+use Rattle.std.proofs.lemmas.List.{append-nil, append_assoc, drop-append-le, take_more, length-map, get_or-map, map-append}
+use Rattle.std.proofs.lemmas.List.Folds.{list_any-append, list_all-append}
+use Rattle.std.proofs.lemmas.List.Sums.{AllPass-from_list_all}
+use Rattle.pthash.specs.Search.{SearchPlan, prefix_of}
+use Rattle.pthash.specs.SearchLaws.{positions_at, fits_at, TakesMore, pilot_fits-more}
+use Rattle.pthash.specs.Order.{bucket_at}
+use Rattle.pilot_search.specs.Table.{positions_under}
+use Rattle.turn_search.specs.declared.board.Look.{Look}
+use Rattle.turn_search.specs.declared.board.View.{View}
+use Rattle.turn_search.specs.declared.trying.Spec.{Spec}
+use Rattle.turn_search.specs.declared.trying.Spec.TheVariants.{Found, AllRejected}
+use Rattle.turn_search.specs.Looks.{found_taken, found_free, late_looks, RejectsBelow, IsCandidateBy, Shows, HasTurn}
+use Rattle.turn_search.specs.Told.{HasTurnIfHeld}
+use Rattle.turn_search.specs.Passes.{CandidateData, LooksAt, OnlyLooked, IsOfRank, IsPilotOf, new_looks}
+use Rattle.turn_search.proofs.LookLemmas.{shown_is_pilot, rejected_has_none}
+use Rattle.turn_search.proofs.TurnKept.{prefix_of-next, prefix_of-stuck}
+use Rattle.turn_search.proofs.Moves.{same_rank}
+use Rattle.turn_search.proofs.Seats.{has_turn_of}
+
+-- no look came
+pub looked_none : (view : View) → OnlyLooked view view
+looked_none view =
+    let all : List Look → View = λ l. record view { looks = l } in
+    record { more = []; view = ap all (sym (append-nil view.looks)) }
+
+-- one look came
+pub looked_once : (before after : View) (p : ℕ) (free : Bool) → LooksAt before after p free → OnlyLooked before after
+looked_once before after p free look = record { more = (record { word = p / 64; value = look.value }) ∷ []; view = look.view }
+
+-- looks came, and then more
+pub looked_on : (one two three : View) → OnlyLooked one two → OnlyLooked two three → OnlyLooked one three
+looked_on one two three first second = record {
+  more = first.more ++ second.more;
+  view =
+      let once : View → View = λ (v : View). record v { looks = v.looks ++ second.more } in
+      let all : List Look → View = λ l. record one { looks = l } in
+      second.view ∙ ap once first.view ∙ ap all (append_assoc one.looks first.more second.more);
+}
+
+-- the new looks are those that came
+pub new_looks-are : (before after : View) (looked : OnlyLooked before after) → new_looks before after ≡ looked.more
+new_looks-are before after looked = ap (λ v. drop (length before.looks) v.looks) looked.view ∙ drop-append_seam before.looks looked.more
+
+-- the new looks of both
+pub new_looks-on : (one two three : View) → OnlyLooked one two → OnlyLooked two three → new_looks one three ≡ new_looks one two ++ new_looks two three
+unfolding looked_on
+new_looks-on one two three first second =
+    new_looks-are one three (looked_on one two three first second)
+    ∙ ap (λ l. l ++ second.more) (sym (new_looks-are one two first))
+    ∙ ap (λ l. new_looks one two ++ l) (sym (new_looks-are two three second))
+
+-- what looks found stays found among more
+pub taken_left : (looks more : List Look) (p : ℕ) → found_taken looks p ≡ true → found_taken (looks ++ more) p ≡ true
+taken_left looks more p found =
+    list_any-append (λ (look : Look). look.word == p / 64 && bit_at look.value (p % 64) == 1) looks more
+    ∙ or_left (found_taken looks p) (found_taken more p) found
+
+pub free_left : (looks more : List Look) (p : ℕ) → found_free looks p ≡ true → found_free (looks ++ more) p ≡ true
+free_left looks more p found =
+    list_any-append (λ (look : Look). look.word == p / 64 && not (bit_at look.value (p % 64) == 1)) looks more
+    ∙ or_left (found_free looks p) (found_free more p) found
+
+pub free_right : (looks more : List Look) (p : ℕ) → found_free more p ≡ true → found_free (looks ++ more) p ≡ true
+free_right looks more p found =
+    list_any-append (λ (look : Look). look.word == p / 64 && not (bit_at look.value (p % 64) == 1)) looks more
+    ∙ or_right (found_free looks p) (found_free more p) found
+
+-- positions of which all pass a test pass a weaker one
+all_weaker : (test weaker : ℕ → Bool) → ((p : ℕ) → test p ≡ true → weaker p ≡ true) → (ps : List ℕ) → list_all test ps ≡ true → list_all weaker ps ≡ true
+all_weaker test weaker implies [] all = refl
+all_weaker test weaker implies (p ∷ ps) all =
+    let parts = and_parts (test p) (list_all test ps) all in
+    and_from (weaker p) (list_all weaker ps) (implies p parts.0) (all_weaker test weaker implies ps parts.1)
+
+-- positions that were all found free were so among more looks
+pub all_free_left : (looks more : List Look) (ps : List ℕ) → list_all (found_free looks) ps ≡ true → list_all (found_free (looks ++ more)) ps ≡ true
+all_free_left looks more ps all = all_weaker (found_free looks) (found_free (looks ++ more)) (free_left looks more) ps all
+
+pub all_free_right : (looks more : List Look) (ps : List ℕ) → list_all (found_free more) ps ≡ true → list_all (found_free (looks ++ more)) ps ≡ true
+all_free_right looks more ps all = all_weaker (found_free more) (found_free (looks ++ more)) (free_right looks more) ps all
+
+-- a look that finds a position free is among the new ones
+pub look_free : (before after : View) (p : ℕ) → LooksAt before after p true → found_free (new_looks before after) p ≡ true
+unfolding looked_once
+look_free before after p look =
+    ap (λ l. found_free l p) (new_looks-are before after (looked_once before after p true look))
+    ∙ or-false (p / 64 == p / 64 && not (bit_at look.value (p % 64) == 1))
+    ∙ and_from (p / 64 == p / 64) (not (bit_at look.value (p % 64) == 1)) (eq-eqb (p / 64) (p / 64) refl) (sym look.answer)
+
+-- a look that finds a position taken is among all
+pub look_taken : (before after : View) (p : ℕ) → LooksAt before after p false → found_taken after.looks p ≡ true
+look_taken before after p look =
+    let set : (bit_at look.value (p % 64) == 1) ≡ true = not_false (bit_at look.value (p % 64) == 1) (sym look.answer) in
+    ap (λ v. found_taken v.looks p) look.view
+    ∙ list_any-append (λ (l : Look). l.word == p / 64 && bit_at l.value (p % 64) == 1) before.looks ((record { word = p / 64; value = look.value }) ∷ [])
+    ∙ or_right (found_taken before.looks p) ((p / 64 == p / 64 && bit_at look.value (p % 64) == 1) || false)
+    (or-false (p / 64 == p / 64 && bit_at look.value (p % 64) == 1)
+    ∙ and_from (p / 64 == p / 64) (bit_at look.value (p % 64) == 1) (eq-eqb (p / 64) (p / 64) refl) set)
+  where
+    not_false : (b : Bool) → not b ≡ false → b ≡ true
+    not_false true is = refl
+    not_false false is = absurd (both_ways true is refl)
+
+-- positions under a hash, and one more
+pub positions_more : (hash size : ℕ) (members : List ℕ) (i : ℕ) → i < length members →
+    positions_under hash size (take (i + 1) members) ≡ positions_under hash size (take i members) ++ bit_xor (slice_index members i) hash % size ∷ []
+positions_more hash size members i below =
+    ap (positions_under hash size) (take_more members i 0 below) ∙ map-append (λ b. bit_xor b hash % size) (take i members) (slice_index members i ∷ [])
+
+-- one more position was found free
+pub free_more : (one two three : View) (ps : List ℕ) (p : ℕ) → OnlyLooked one two → LooksAt two three p true →
+    list_all (found_free (new_looks one two)) ps ≡ true →
+    list_all (found_free (new_looks one three)) (ps ++ p ∷ []) ≡ true
+free_more one two three ps p looked look all =
+    let once = looked_once two three p true look in
+    let both = new_looks-on one two three looked once in
+    ap (λ l. list_all (found_free l) (ps ++ p ∷ [])) both
+    ∙ list_all-append (found_free (new_looks one two ++ new_looks two three)) ps (p ∷ [])
+    ∙ and_from (list_all (found_free (new_looks one two ++ new_looks two three)) ps) (found_free (new_looks one two ++ new_looks two three) p && true)
+    (all_free_left (new_looks one two) (new_looks two three) ps all)
+    (and_from (found_free (new_looks one two ++ new_looks two three) p) true
+    (free_right (new_looks one two) (new_looks two three) p (look_free two three p look)) refl)
+
+-- one of the positions is taken
+pub not_all_free : (taken : ℕ → Bool) (hash size : ℕ) (members : List ℕ) (i : ℕ) → i < length members →
+    taken (bit_xor (slice_index members i) hash % size) ≡ true →
+    list_all (λ p. not (taken p)) (positions_under hash size members) ≡ false
+not_all_free taken hash size members i below is =
+    let ps : List ℕ = positions_under hash size members in
+    let here : slice_index ps i ≡ bit_xor (slice_index members i) hash % size = get_or-map (λ b. bit_xor b hash % size) members i 0 0 below in
+    false_from_ne_true (list_all (λ p. not (taken p)) ps) (λ all.
+    let free : not (taken (slice_index ps i)) ≡ true =
+    AllPass-from_list_all (λ p. not (taken p)) ps all i 0 (omega (arith, length-map members (λ b. bit_xor b hash % size))) in
+    both_ways (not (taken (slice_index ps i))) (not_from_true (taken (slice_index ps i)) (ap taken here ∙ is)) free)
+
+-- a pilot that a view rejects it rejects after more looks
+pub rejects_on : (before after : View) (rank k : ℕ) → OnlyLooked before after → RejectsBelow before rank k → RejectsBelow after rank k
+rejects_on before after rank k looked rejects =
+    let now : View = record before { looks = before.looks ++ looked.more } in
+    let more : TakesMore (found_taken before.looks) (found_taken now.looks) = λ p free.
+    false_from_ne_true (found_taken before.looks p) (λ found. both_ways (found_taken now.looks p) free (taken_left before.looks looked.more p found)) in
+    subst (λ v. RejectsBelow v rank k) (sym looked.view)
+    record {
+      fails = λ j below. pilot_fits-more before.plan.seed before.plan.size (found_taken before.looks) (found_taken now.looks)
+          (bucket_at before.plan.buckets rank).members j more
+          (rejects.fails j below);
+    }
+
+-- one pilot more is rejected
+pub rejects_next : (view : View) (rank k : ℕ) → RejectsBelow view rank k → fits_at view.plan (found_taken view.looks) rank k ≡ false →
+    RejectsBelow view rank (k + 1)
+rejects_next view rank k rejects last = record {
+  fails = λ j below.
+      ⊎_elim (λ (lower : j < k). rejects.fails j lower)
+      (λ (high : k ≤ j). let same : k ≡ j = omega arith in subst (λ i. fits_at view.plan (found_taken view.looks) rank i ≡ false) same last)
+      (cases_lt j k);
+}
+
+-- a candidate by the last looks is one by all new ones
+pub candidate_on : (plan : SearchPlan) (one two three : View) (rank k : ℕ) → OnlyLooked one two → OnlyLooked two three →
+    IsCandidateBy plan (new_looks two three) rank k → IsCandidateBy plan (new_looks one three) rank k
+candidate_on plan one two three rank k first second it = record {
+  below = it.below;
+  distinct = it.distinct;
+  free = ap (λ l. list_all (found_free l) (positions_at plan rank k)) (new_looks-on one two three first second)
+      ∙ all_free_right (new_looks one two) (new_looks two three) (positions_at plan rank k) it.free;
+}
+
+-- a pilot that a second test finds while the turn is held is shown
+pub retest_shows : (before after : View) (rank k : ℕ) → OnlyLooked before after → HasTurnIfHeld before → before.holds ≡ true →
+    before.claim ≡ Some rank → RejectsBelow after rank k → IsCandidateBy after.plan (new_looks before after) rank k → Shows after rank k
+retest_shows before after rank k looked turn held claims rejects it =
+    let was = has_turn_of before rank turn held claims in
+    let late : late_looks after ≡ late_looks before ++ looked.more =
+    ap (λ v. drop v.mark v.looks) looked.view ∙ drop-append-le before.mark before.looks looked.more was.sees.marked in
+    record {
+      claims = ap (λ v. v.claim) looked.view ∙ claims;
+      holds = ap (λ v. v.holds) looked.view ∙ held;
+      lower = rejects;
+      candidate = record {
+        below = it.below;
+        distinct = it.distinct;
+        free = ap (λ l. list_all (found_free l) (positions_at after.plan rank k)) late
+            ∙ all_free_right (late_looks before) looked.more (positions_at after.plan rank k)
+            (subst (λ l. list_all (found_free l) (positions_at after.plan rank k) ≡ true) (new_looks-are before after looked) it.free);
+      };
+    }
+
+-- so it is the pilot of the search
+pub shown_in_search : (view : View) (rank k : ℕ) → 1 ≤ view.plan.size → HasTurn view rank → Shows view rank k → IsPilotOf view.plan rank k
+shown_in_search view rank k room turn shows = record {
+  state = turn.state;
+  reached = turn.reached;
+  pilot = shown_is_pilot view turn.state rank k room turn.sees shows;
+}
+
+-- a second test rejects all exactly where the search is stuck
+pub stuck_exactly : (view : View) (rank : ℕ) (spec : Spec) → 1 ≤ view.plan.size → HasTurn view rank →
+    ((it : CandidateData) → spec ≡ Found it → IsPilotOf view.plan rank it.pilot) → (spec ≡ AllRejected → RejectsBelow view rank view.plan.limit) →
+    (spec ≡ AllRejected) ↔ (prefix_of view.plan (rank + 1) ≡ Err rank)
+stuck_exactly view rank spec room turn found all = (
+  (λ is. prefix_of-stuck view.plan rank turn.state turn.reached (rejected_has_none view turn.state rank room turn.sees (all is))),
+  λ stuck.
+      elim spec as (λ s. spec ≡ s → spec ≡ AllRejected) [
+        | Found it ↦ λ is.
+            let pilot = found it is in
+            let next = prefix_of-next view.plan rank it.pilot pilot.state pilot.reached pilot.pilot in
+            absurd cc
+        | AllRejected ↦ λ is. is
+      ] refl,
+)
+
+-- what a second test comes to, where the turn is held
+module _ (plan : SearchPlan) (before after : View) (rank : ℕ) (looked : OnlyLooked before after) (same_plan : after.plan ≡ plan) (room : 1 ≤ plan.size)
+    (turn : HasTurnIfHeld before) (now : HasTurnIfHeld after) (held : before.holds ≡ true) (claims : before.claim ≡ Some rank) where
+  -- the claim stays
+  still_claims : after.claim ≡ Some rank
+  still_claims = ap (λ v. v.claim) looked.view ∙ claims
+
+  -- so do the turn and what is known of it
+  still_has : HasTurn after rank
+  still_has = has_turn_of after rank now (ap (λ v. v.holds) looked.view ∙ held) still_claims
+
+  -- the size
+  has_room : 1 ≤ after.plan.size
+  has_room = subst (λ (q : SearchPlan). 1 ≤ q.size) (sym same_plan) room
+
+  -- what is found is of the same rank
+  pub found_same_rank : (it : CandidateData) → IsOfRank after it → it.rank ≡ rank
+  found_same_rank it own = same_rank after.claim it.rank rank own.rank still_claims
+
+  -- it is shown
+  pub found_shows : (it : CandidateData) → IsOfRank after it → IsCandidateBy plan (new_looks before after) it.rank it.pilot →
+      Shows after it.rank it.pilot
+  found_shows it own candidate =
+      retest_shows before after it.rank it.pilot looked turn held (claims ∙ ap Some (sym (found_same_rank it own))) own.lower
+      (subst (λ q. IsCandidateBy q (new_looks before after) it.rank it.pilot) (sym same_plan) candidate)
+
+  -- and is the pilot of the search
+  pub found_is_pilot : (it : CandidateData) → IsOfRank after it → IsCandidateBy plan (new_looks before after) it.rank it.pilot →
+      IsPilotOf plan it.rank it.pilot
+  found_is_pilot it own candidate =
+      subst (λ q. IsPilotOf q it.rank it.pilot) same_plan
+      (shown_in_search after it.rank it.pilot has_room (subst (HasTurn after) (sym (found_same_rank it own)) still_has)
+      (found_shows it own candidate))
+
+  -- all are rejected exactly where the search is stuck
+  pub rejects_where_stuck : (spec : Spec) → ((it : CandidateData) → spec ≡ Found it → IsOfRank after it) →
+      ((it : CandidateData) → spec ≡ Found it → IsCandidateBy plan (new_looks before after) it.rank it.pilot) →
+      ((r : ℕ) → before.claim ≡ Some r → spec ≡ AllRejected → RejectsBelow after r plan.limit) →
+      (spec ≡ AllRejected) ↔ (prefix_of plan (rank + 1) ≡ Err rank)
+  rejects_where_stuck spec own candidate all =
+      subst (λ q. (spec ≡ AllRejected) ↔ (prefix_of q (rank + 1) ≡ Err rank)) same_plan
+      (stuck_exactly after rank spec has_room still_has
+      (λ it is.
+      subst (λ r. IsPilotOf after.plan r it.pilot) (found_same_rank it (own it is))
+      (subst (λ q. IsPilotOf q it.rank it.pilot) (sym same_plan) (found_is_pilot it (own it is) (candidate it is))))
+      (λ is. subst (λ (q : SearchPlan). RejectsBelow after rank q.limit) (sym same_plan) (all rank claims is)))

@@ -1,0 +1,20 @@
+//! A search that several threads share: each bucket takes its turn, and pilots are tested before their turn comes.
+#![tactic(auto)]
+
+mod board;
+mod claiming;
+mod closing;
+mod committing;
+mod layout;
+mod plays;
+mod table;
+#[cfg(test)]
+mod tests;
+mod trying;
+mod turns;
+
+pub use crate::claiming::Claim;
+pub use crate::closing::Ended;
+pub use crate::table::{Pass, TurnTable};
+pub use crate::trying::{Candidate, Spec};
+pub use crate::turns::Turn;
