@@ -1,6 +1,10 @@
 //! What a build of a list of keys comes to, as definitions that contracts cite.
 #![tactic(auto)]
 
+mod mark;
+
+pub use crate::mark::KeyMark;
+
 /// Why a seed did not succeed.
 #[derive(Clone, Copy, Debug, PartialEq, Eq)]
 pub enum Cause {
@@ -8,12 +12,4 @@ pub enum Cause {
     SameHash { first: u64, second: u64 },
     /// This bucket of this partition has no pilot.
     Stuck { part: u32, bucket: u64 },
-}
-
-/// The mark by which a list of keys is known again: the sum of the first hashes of all keys, modulo
-/// 2^64, and the xor of their second hashes.
-#[derive(Clone, Copy, Debug, PartialEq, Eq)]
-pub struct KeyMark {
-    pub sum: u64,
-    pub xor: u64,
 }
