@@ -26,14 +26,6 @@ const UNMARKED_FILE: [u8; 144] = [
     0, 0, 0, 3, 0, 0, 0, 0, 0, 0, 0, 68, 130, 59, 193, 58, 96, 223, 66,
 ];
 
-// Five keys under the uniform map, as groups.
-const UNIFORM_FILE: [u8; 112] = [
-    80, 84, 72, 88, 2, 2, 0, 1, 1, 0, 0, 0, 0, 0, 0, 0, 5, 0, 0, 0, 0, 0, 0, 0, 98, 0, 0, 0, 0, 0,
-    0, 0, 188, 2, 0, 0, 0, 0, 0, 0, 1, 0, 0, 0, 0, 0, 0, 0, 47, 101, 77, 243, 222, 35, 225, 209, 62,
-    95, 39, 152, 254, 158, 238, 115, 5, 0, 0, 0, 0, 0, 0, 0, 2, 0, 0, 0, 0, 0, 0, 0, 0, 0, 192, 32,
-    0, 0, 0, 0, 0, 0, 0, 0, 0, 0, 0, 0, 1, 0, 0, 0, 0, 0, 0, 0, 188, 60, 44, 45, 232, 224, 237, 104,
-];
-
 // The same bytes with others in place of some, and the digest that belongs to them.
 fn with(rt: &impl Abort, alloc: Global, file: &[u8], at: usize, new: &[u8]) -> Result<Vec<u8>, Fail> {
     assert!(rt; file.len() >= 8);
