@@ -3,7 +3,6 @@ pub mod ClashLaws
 pub mod FreeList
 pub mod Index
 pub mod Mark
-pub mod KeyMarkData
 pub mod Values
 pub mod Validity
 pub mod FreeListLaws

@@ -13,11 +13,3 @@ pub enum Cause {
     /// This bucket of this partition has no pilot.
     Stuck { part: u32, bucket: u64 },
 }
-
-/// The mark by which a list of keys is known again: the sum of the first hashes of all keys, modulo
-/// 2^64, and the xor of their second hashes.
-#[derive(Clone, Copy, Debug, PartialEq, Eq)]
-pub struct KeyMark {
-    pub sum: u64,
-    pub xor: u64,
-}

@@ -11,10 +11,13 @@ pub struct KeyMark {
 
 impl Model for KeyMark {
     ghost use Rattle.build_outcome.specs.Index.{KeyMarkData};
+    ghost use Rattle.build_outcome.specs.Validity.{IsMark};
 
     ghost Value = { KeyMarkData };
 
     ghost view = { λ a. record { sum = a.sum; xor = a.xor } };
 
     ghost inverse = { λ m. record { sum = m.sum; xor = m.xor } };
+
+    ghost invariant = { λ a. IsMark (record { sum = a.sum; xor = a.xor }) };
 }

@@ -6,6 +6,7 @@ use Rattle.std.proofs.Math.Nat.{mod-lt}
 use Rattle.std.proofs.lemmas.Bool.{eq-eqb, ne_eqb, eqb-true, eqb-false}
 use Rattle.std.proofs.lemmas.List.{length-map, get_or-map}
 use Rattle.std.proofs.lemmas.List.Sums.{sum_by-cons}
+use Rattle.pthash.specs.declared.Map.{Map}
 use Rattle.pthash.specs.Hash.{first_hash, second_hash}
 use Rattle.pthash.specs.Sizes.{partition_of}
 use Rattle.pthash.specs.Shapes.{ShapeData}
@@ -23,13 +24,13 @@ use Rattle.index_file.specs.Held.{parts_data, held_data, IsHeld, IsUnder}
 use Rattle.index_file.specs.Starts.{starts_from}
 
 -- the sums before the partitions
-starts_at : (before : ℕ) (parts : List PartData) (q : ℕ) → q < length parts →
-    get_or (starts_from before (key_counts parts)) q 0 ≡ before + key_count (take q parts)
+starts_at : (before : ℕ) (parts : List PartData) (q d : ℕ) → q < length parts →
+    get_or (starts_from before (key_counts parts)) q d ≡ before + key_count (take q parts)
 unfolding starts_from
-starts_at before [] q within = absurd (omega arith)
-starts_at before (part ∷ parts) zero within = omega arith
-starts_at before (part ∷ parts) (suc q) within =
-    omega (arith, starts_at (before + part.n) parts q (omega arith), sum_by-cons (λ (p : PartData). p.n) part (take q parts))
+starts_at before [] q d within = absurd (omega arith)
+starts_at before (part ∷ parts) zero d within = omega arith
+starts_at before (part ∷ parts) (suc q) d within =
+    omega (arith, starts_at (before + part.n) parts q d (omega arith), sum_by-cons (λ (p : PartData). p.n) part (take q parts))
 
 -- one sum for each partition
 length-starts_from : (before : ℕ) (counts : List ℕ) → length (starts_from before counts) ≡ length counts
@@ -44,32 +45,32 @@ starts_count held beside =
     ap length beside.starts ∙ length-starts_from 0 (key_counts parts) ∙ length-key_counts parts ∙ length-map held.parts.items part_data
 
 -- a sum that is kept
-pub start_is : (held : Held) (q : ℕ) → IsHeld held → q < length held.parts.items →
-    get_or held.starts.items q 0 ≡ key_count (take q (parts_data held.parts.items))
-start_is held q beside within =
+pub start_is : (held : Held) (q d : ℕ) → IsHeld held → q < length held.parts.items →
+    get_or held.starts.items q d ≡ key_count (take q (parts_data held.parts.items))
+start_is held q d beside within =
     let parts = parts_data held.parts.items in
-    ap (λ (ks : List ℕ). get_or ks q 0) beside.starts
-    ∙ starts_at 0 parts q (omega (arith, length-map held.parts.items part_data))
+    ap (λ (ks : List ℕ). get_or ks q d) beside.starts
+    ∙ starts_at 0 parts q d (omega (arith, length-map held.parts.items part_data))
     ∙ Rattle.std.proofs.Common.zero-add (key_count (take q parts))
 
 -- a partition that is kept
-part_is : (parts : List (Option Lists)) (q : ℕ) (part : Option Lists) → q < length parts → get_or parts q None ≡ part →
+part_is : (parts : List (Option Lists)) (q : ℕ) (d part : Option Lists) → q < length parts → get_or parts q d ≡ part →
     part_at (parts_data parts) q ≡ part_data part
-part_is parts q part within is = get_or-map parts part_data q None _ within ∙ ap part_data is
+part_is parts q d part within is = get_or-map part_data parts q d (record { n = 0; pilots = []; free = [] }) within ∙ ap part_data is
 
 -- the position of a pair in a partition with a key is one of its positions
 position-lt : (lists : Lists) (seed a b : ℕ) → pair_position lists.spread.map seed (lists_data lists) a b < part_size (lists_data lists)
 position-lt lists seed a b = let some = lists.some in mod-lt _ (omega arith)
 
 -- the value in a partition, behind the partitions before, is below the number of keys
-pub value_fits : (held : Held) (q : ℕ) (lists : Lists) (a b : ℕ) → IsValidIndex (held_data held) → q < length held.parts.items →
-    get_or held.parts.items q None ≡ Some lists →
+pub value_fits : (held : Held) (q : ℕ) (d : Option Lists) (lists : Lists) (a b : ℕ) → IsValidIndex (held_data held) → q < length held.parts.items →
+    get_or held.parts.items q d ≡ Some lists →
     key_count (take q (parts_data held.parts.items)) + position_value lists.n lists.free (pair_position lists.spread.map held.seed (lists_data lists) a b)
     < held.n
-value_fits held q lists a b valid within is =
+value_fits held q d lists a b valid within is =
     let parts = parts_data held.parts.items in
     let inside : q < length parts = omega (arith, length-map held.parts.items part_data) in
-    let part = part_is held.parts.items q (Some lists) within is in
+    let part = part_is held.parts.items q d (Some lists) within is in
     let shape = (held_data held).shape in
     let here : IsValidPart shape (part_at parts q) = valid.parts q (record { n = 0; pilots = []; free = [] }) inside in
     let good : IsValidPart shape (lists_data lists) = subst (IsValidPart shape) part here in
@@ -83,38 +84,39 @@ abbrev pub place_of : Held → List ℕ → ℕ
 place_of held key = partition_of (first_hash key held.seed) (second_hash key held.seed) (length held.parts.items)
 
 -- a key whose partition has none has no value
-pub value_of-none : (held : Held) (key : List ℕ) (q : ℕ) → q ≡ place_of held key → q < length held.parts.items → get_or held.parts.items q None ≡ None →
+pub value_of-none : (held : Held) (key : List ℕ) (q : ℕ) (d : Option Lists) → q ≡ place_of held key → q < length held.parts.items →
+    get_or held.parts.items q d ≡ None →
     None ≡ value_of (held_data held) key
 unfolding value_of
-value_of-none held key q place within is =
+value_of-none held key q d place within is =
     let a = first_hash key held.seed in
     let b = second_hash key held.seed in
     let parts = parts_data held.parts.items in
     let count : length parts ≡ length held.parts.items = length-map held.parts.items part_data in
     let there : partition_of a b (length parts) ≡ q = ap (partition_of a b) count ∙ sym place in
-    let part : part_at parts q ≡ part_data None = part_is held.parts.items q None within is in
+    let part : part_at parts q ≡ part_data None = part_is held.parts.items q d None within is in
     sym (ap (λ (k : ℕ). option_map (λ v. key_count (take k parts) + v) (part_value held.shape.map held.seed (part_at parts k) a b)) there
     ∙ ap (λ (p : PartData). option_map (λ v. key_count (take q parts) + v) (part_value held.shape.map held.seed p a b)) part)
 
 -- a key whose partition has one has the value in it, behind the partitions before
-pub value_of-some : (held : Held) (key : List ℕ) (q : ℕ) (lists : Lists) → IsHeld held → q ≡ place_of held key → q < length held.parts.items →
-    get_or held.parts.items q None ≡ Some lists →
+pub value_of-some : (held : Held) (key : List ℕ) (q : ℕ) (d : Option Lists) (lists : Lists) → IsHeld held → q ≡ place_of held key → q < length held.parts.items →
+    get_or held.parts.items q d ≡ Some lists →
     Some (key_count (take q (parts_data held.parts.items))
     + position_value lists.n lists.free (pair_position lists.spread.map held.seed (lists_data lists) (first_hash key held.seed) (second_hash key held.seed)))
     ≡ value_of (held_data held) key
 unfolding value_of
-value_of-some held key q lists beside place within is =
+value_of-some held key q d lists beside place within is =
     let a = first_hash key held.seed in
     let b = second_hash key held.seed in
     let parts = parts_data held.parts.items in
     let count : length parts ≡ length held.parts.items = length-map held.parts.items part_data in
     let there : partition_of a b (length parts) ≡ q = ap (partition_of a b) count ∙ sym place in
-    let part : part_at parts q ≡ lists_data lists = part_is held.parts.items q (Some lists) within is in
+    let part : part_at parts q ≡ lists_data lists = part_is held.parts.items q d (Some lists) within is in
     let under : IsUnder held.shape.map held.enc (Some lists) =
-    subst (IsUnder held.shape.map held.enc) is (beside.under q None within) in
+    subst (IsUnder held.shape.map held.enc) is (beside.under q d within) in
     let some = lists.some in
     let other : lists.n ≡ 0 → ⊥ = λ none. omega arith in
-    let value = λ m. position_value lists.n lists.free (pair_position m held.seed (lists_data lists) a b) in
+    let value = λ (m : Map). position_value lists.n lists.free (pair_position m held.seed (lists_data lists) a b) in
     let here : part_value held.shape.map held.seed (lists_data lists) a b ≡ Some (value held.shape.map) =
     ap (λ t. cond t None (Some (value held.shape.map))) (ne_eqb lists.n 0 other) in
     sym (ap (λ (k : ℕ). option_map (λ v. key_count (take k parts) + v) (part_value held.shape.map held.seed (part_at parts k) a b)) there
@@ -129,10 +131,13 @@ no_value x key = by_test (keys == 0) refl
   where
     q : ℕ
     q = partition_of (first_hash key x.seed) (second_hash key x.seed) (length x.parts)
+
     keys : ℕ
     keys = (part_at x.parts q).n
+
     value : ℕ
     value = position_value keys (part_at x.parts q).free (pair_position x.shape.map x.seed (part_at x.parts q) (first_hash key x.seed) (second_hash key x.seed))
+
     by_test : (t : Bool) → (keys == 0) ≡ t → (option_map (λ v. key_count (take q x.parts) + v) (cond t None (Some value)) ≡ None) ↔ (keys ≡ 0)
     by_test true is = (λ none. eqb-true keys 0 is, λ none. refl)
     by_test false is = (λ none. absurd cc, λ none. absurd (eqb-false keys 0 is none))

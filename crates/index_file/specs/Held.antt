@@ -4,7 +4,6 @@ use Rattle.pthash.specs.declared.Map.{Map}
 use Rattle.bucket_map.specs.ShapeData.{shape_data}
 use Rattle.pilot_codecs.specs.declared.code.Encoding.{Encoding}
 use Rattle.build_outcome.specs.Index.{PartData, IndexData}
-use Rattle.build_outcome.specs.KeyMarkData.{key_mark_data}
 use Rattle.build_outcome.specs.Validity.{IsValidIndex}
 use Rattle.index_text.specs.Text.{key_counts, index_text}
 use Rattle.index_file.specs.declared.lists.Lists.{Lists}
@@ -24,7 +23,7 @@ held_data held = record {
   n = held.n;
   shape = shape_data held.shape;
   parts = parts_data held.parts.items;
-  mark = option_map key_mark_data held.mark;
+  mark = held.mark;
 }
 
 -- the index and its encoding

@@ -1,7 +1,6 @@
 // The mark and the numbers of keys of the partitions.
 ghost use Rattle.std.specs.Prelude.{◌≡◌, ◌+◌, ◌-◌, ◌*◌, ◌^◌, ◌≤◌, ◌<◌, ℕ, List, length, drop, sum, option_map, IfOk, OnOk, OnErr};
 ghost use Rattle.elias_fano.specs.Values.{below_len};
-ghost use Rattle.build_outcome.specs.KeyMarkData.{key_mark_data};
 ghost use Rattle.index_text.specs.Faults.{Gives};
 ghost use Rattle.index_text.specs.Fields.{mark_at, counts_at};
 ghost use Rattle.index_file.specs.Starts.{starts_from};
@@ -22,7 +21,7 @@ pub(crate) fn mark_of(
     at: usize,
 ) -> Result<(Option<KeyMark>, usize), IndexFault>
     requires { at ≤ length bytes.now }
-    ensures value { Gives (λ x. (option_map key_mark_data x.0, drop x.1 bytes.now)) result
+    ensures value { Gives (λ x. (x.0, drop x.1 bytes.now)) result
         (mark_at version (drop at bytes.now)) }
     ensures within { IfOk result (λ x. x.1 ≤ length bytes.now) }
 {

@@ -1,10 +1,9 @@
 // An index: lookups, and what its file says of it.
 ghost use Rattle.std.specs.Prelude.{◌≡◌, ◌<◌, ◌≤◌, ◌^◌, ◌↔◌, ◌++◌, length, take, sum_by, Some, None, option_map, IfSome, OnOk};
 ghost use Rattle.bucket_map.specs.ShapeData.{shape_data};
-ghost use Rattle.build_outcome.specs.KeyMarkData.{key_mark_data};
 ghost use Rattle.build_outcome.specs.Values.{part_size, value_of};
 ghost use Rattle.index_text.specs.Text.{version_of, index_text};
-ghost use Rattle.build_outcome.specs.Validity.{IsValidIndex};
+ghost use Rattle.build_outcome.specs.Validity.{IsMark, IsValidIndex};
 ghost use Rattle.index_file.specs.Encoded.{EncodedIndex, keys_beside, marked};
 ghost use Rattle.index_file.specs.Held.{encoded_of, parts_data, IsKept};
 ghost use Rattle.index_file.specs.Lists.{part_data};
@@ -126,7 +125,8 @@ impl Index {
     // Appends the file with a mark; on want of memory a part of it.
     pub(crate) fn put(&self, mark: KeyMark, out: &mut Vec<u8>) -> Result<(), NoMemory>
         ensures ok { OnOk result (out.new.items ≡ out.old.items
-            ++ index_text (marked self.now.index (key_mark_data mark)) self.now.enc) }
+            ++ index_text (marked self.now.index mark) self.now.enc) }
+        ensures fits { OnOk result (IsMark mark) }
         ensures valid { IsValidIndex self.now.index }
         ensures kept { take (length out.old.items) out.new.items ≡ out.old.items }
     {
@@ -151,7 +151,7 @@ impl Index {
         ensures shape { shape_data result.shape ≡ self.now.index.shape }
         ensures parts { result.parts ≡ length self.now.index.parts }
         ensures enc { result.enc ≡ self.now.enc }
-        ensures mark { option_map key_mark_data result.mark ≡ self.now.index.mark }
+        ensures mark { result.mark ≡ self.now.index.mark }
 
         // Sums over the partitions, and the length of the file.
         ensures size { result.size ≡ sum_by part_size self.now.index.parts }
@@ -178,7 +178,7 @@ impl Index {
 
 // The version of the file of an index with this mark, or with none.
 fn version_for(mark: Option<KeyMark>) -> u8
-    ensures { result ≡ version_of (option_map key_mark_data mark) }
+    ensures { result ≡ version_of mark }
 {
     match mark {
         None => UNMARKED,

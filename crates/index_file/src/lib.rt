@@ -18,3 +18,6 @@ pub use crate::writing::write_marked;
 pub use build_outcome::KeyMark;
 pub use index_text::{IndexFault, MAX_BYTES};
 pub use pilot_codecs::{Code, Encoding, NoMemory};
+
+#[cfg(test)]
+mod tests;

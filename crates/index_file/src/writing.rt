@@ -2,7 +2,7 @@
 ghost use Rattle.std.specs.Prelude.{◌≡◌, ◌++◌, ◌≤◌, List, ℕ, Some, length, take, drop, IfOk, OnOk, OnErr};
 ghost use Rattle.std.specs.List.{flat_map};
 ghost use Rattle.elias_fano.specs.Spelling.{number};
-ghost use Rattle.build_outcome.specs.KeyMarkData.{key_mark_data};
+ghost use Rattle.build_outcome.specs.Validity.{IsMark};
 ghost use Rattle.build_outcome.specs.Index.{KeyMarkData};
 ghost use Rattle.index_text.specs.Text.{head_text, digest_of, body_text, index_text, IsIndex};
 ghost use Rattle.index_file.specs.Encoded.{marked};
@@ -144,7 +144,8 @@ fn put_digest(out: &mut Vec<u8>, start: usize) -> Result<(), NoMemory>
 fn put_body(out: &mut Vec<u8>, held: &Held, mark: KeyMark) -> Result<(), NoMemory>
     requires { IsHeld held.now }
     ensures ok { OnOk result (out.new.items ≡ out.old.items
-        ++ body_text (marked (held_data held.now) (key_mark_data mark)) held.now.enc) }
+        ++ body_text (marked (held_data held.now) mark) held.now.enc) }
+    ensures fits { OnOk result (IsMark mark) }
     ensures kept { take (length out.old.items) out.new.items ≡ out.old.items }
 {
     put_head(out, fields_of(held))?;
@@ -158,7 +159,8 @@ fn put_body(out: &mut Vec<u8>, held: &Held, mark: KeyMark) -> Result<(), NoMemor
 pub(crate) fn put_file(out: &mut Vec<u8>, held: &Held, mark: KeyMark) -> Result<(), NoMemory>
     requires { IsHeld held.now }
     ensures ok { OnOk result (out.new.items ≡ out.old.items
-        ++ index_text (marked (held_data held.now) (key_mark_data mark)) held.now.enc) }
+        ++ index_text (marked (held_data held.now) mark) held.now.enc) }
+    ensures fits { OnOk result (IsMark mark) }
     ensures kept { take (length out.old.items) out.new.items ≡ out.old.items }
 {
     let start = out.len();
@@ -171,10 +173,10 @@ pub(crate) fn put_file(out: &mut Vec<u8>, held: &Held, mark: KeyMark) -> Result<
 /// want of memory nothing.
 pub fn write_marked(index: &Index, mark: KeyMark, out: &mut Vec<u8>) -> Result<(), NoMemory>
     ensures ok { OnOk result (out.new.items ≡ out.old.items
-        ++ index_text (marked index.now.index (key_mark_data mark)) index.now.enc) }
+        ++ index_text (marked index.now.index mark) index.now.enc) }
     // So it is read again, and is not too long.
     ensures index { OnOk result (IsIndex (drop (length out.old.items) out.new.items)
-        (marked index.now.index (key_mark_data mark)) index.now.enc) }
+        (marked index.now.index mark) index.now.enc) }
     ensures err { OnErr result (out.new.items ≡ out.old.items) }
 {
     let start = out.len();
