@@ -1,16 +1,13 @@
 -- The entries of a free list are found one after another.
-use Rattle.std.proofs.Common.{◌≡◌, ℕ, zero, suc, ◌+◌, ◌-◌, ◌<◌, ◌≤◌, min, Bool, true, false}
+use Rattle.std.proofs.Common.{◌≡◌, ℕ, zero, suc, ◌+◌, ◌-◌, ◌≤◌, min, Bool, true, false}
 use Rattle.std.proofs.Common.{List, [], ◌∷◌, ◌++◌, length, map, refl, sym, ap, ◌∙◌, arith}
 use mir.Val.{bool_byte}
 use Rattle.std.specs.Prelude.{slice_index}
-use Rattle.std.specs.List.Sorted.{IsNonDecreasing}
-use Rattle.std.proofs.lemmas.List.{map-append, get_or_past}
+use Rattle.std.proofs.lemmas.List.{map-append}
 use Rattle.pthash.specs.Order.{numbers_below}
 use Rattle.pthash.specs.ApartCounts.{one_if}
 use Rattle.build_outcome.specs.FreeList.{free_below, taken_from, free_entry, free_list_of}
-use Rattle.build_outcome.specs.FreeListLaws.{taken_from-suc, free_list_of-rises, length-free_list_of}
-use Rattle.elias_fano.specs.Spelling.{rises}
-use Rattle.elias_fano.proofs.CallerLemmas.{rises-yes}
+use Rattle.build_outcome.specs.FreeListLaws.{taken_from-suc}
 
 -- a truth value as a number
 pub bool_byte-one_if : (b : Bool) → bool_byte b ≡ one_if b

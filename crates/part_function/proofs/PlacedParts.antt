@@ -1,5 +1,5 @@
 -- A partition, from what the search for it placed.
-use Rattle.std.proofs.Common.{◌≡◌, ℕ, ◌<◌, ◌≤◌, List, [], ◌∷◌, length, Result, Ok, Err, refl, sym, ap, ◌∙◌, subst, arith}
+use Rattle.std.proofs.Common.{◌≡◌, ℕ, ◌<◌, ◌≤◌, List, [], ◌∷◌, length, Ok, Err, sym, ap, ◌∙◌, subst, arith}
 use Rattle.std.specs.FinSet.{contains}
 use Rattle.pthash.specs.declared.Record.{Record}
 use Rattle.pthash.specs.declared.TheConstants.{MAX_KEYS, MAX_PILOTS}

@@ -1,5 +1,4 @@
 -- A valid partition keeps what each partition does.
-use Rattle.std.specs.Prelude.{◌≡◌, ℕ, ◌≤◌, length}
 use Rattle.std.proofs.Common.{ap, ◌∙◌, arith}
 use Rattle.std.proofs.lemmas.List.{nil_from_length}
 use Rattle.pthash.specs.Shapes.{ShapeData, IsShape}

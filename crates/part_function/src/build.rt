@@ -183,7 +183,8 @@ fn placed_part(
     requires few { length records.now ≤ MAX_KEYS }
     requires some_pilot { 1 ≤ plan.limit }
     requires few_pilots { plan.limit ≤ MAX_PILOTS }
-    requires plan { plan ≡ partition_plan (one_part (shape_data shape) plan.limit) plan.seed records.now }
+    requires plan { let rules = one_part (shape_data shape) plan.limit in
+        plan ≡ partition_plan rules plan.seed records.now }
     requires placed { IsPlaced plan placed }
     ensures { IfOk result (λ part.
         part_of (one_part (shape_data shape) plan.limit) plan.seed records.now ≡ Ok part) }

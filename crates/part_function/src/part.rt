@@ -30,8 +30,8 @@ impl Model for Part {
 
     ghost view = { λ a. record { n = a.n; pilots = a.pilots.items; free = a.free } };
 
-    ghost invariant = { λ a.
-        IsHeldPart (record { n = a.n; pilots = a.pilots.items; free = a.free }) a.buckets a.positions };
+    ghost invariant = { λ a. IsHeldPart
+        (record { n = a.n; pilots = a.pilots.items; free = a.free }) a.buckets a.positions };
 }
 
 impl Part {

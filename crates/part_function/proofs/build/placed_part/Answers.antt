@@ -1,4 +1,4 @@
-use Rattle.std.proofs.Common.{◌≡◌, Ok, length, sym, ap, ◌∙◌}
+use Rattle.std.proofs.Common.{Ok, length, sym, ap, ◌∙◌}
 use Rattle.std.specs.FinSet.{contains}
 use Rattle.build_outcome.specs.FreeList.{free_list_of}
 use Rattle.pthash.specs.ByBucket.{pilots_by_number}
@@ -12,7 +12,8 @@ by_number-requires-clause-below c =
 
 pub free_list-requires : goal.free_list-requires
 free_list-requires c =
-    records_fit c.args.shape c.args.plan.limit c.args.plan.seed c.args.placed.occupied.size c.args.records.now c.args.plan c.requires.plan c.requires.placed.size
+    records_fit c.args.shape c.args.plan.limit c.args.plan.seed c.args.placed.occupied.size c.args.records.now c.args.plan c.requires.plan
+    c.requires.placed.size
 
 pub new-requires : goal.new-requires
 new-requires c =

@@ -1,4 +1,4 @@
-use Rattle.std.proofs.Common.{◌≡◌, ◌-◌, min, length, ap, ◌∙◌, rules, arith}
+use Rattle.std.proofs.Common.{◌≡◌, ◌-◌, min, length, ap, ◌∙◌, arith}
 use Rattle.std.specs.Prelude.{slice_index}
 use Rattle.std.specs.FinSet.{contains}
 use Rattle.pthash.specs.ApartCounts.{one_if}
@@ -22,8 +22,8 @@ loop-position-preserved c =
 
 pub returns-clause-entries : goal.returns-clause-entries
 returns-clause-entries c =
-    all_entries (contains c.args.occupied.now.taken) c.args.n c.loop-position.position c.args.occupied.now.size c.loop-position.rank c.loop-position.entries.items
-    (omega (arith, c.size-size.ensures.value)) c.loop-position.invariant
+    all_entries (contains c.args.occupied.now.taken) c.args.n c.loop-position.position c.args.occupied.now.size c.loop-position.rank
+    c.loop-position.entries.items (omega (arith, c.size-size.ensures.value)) c.loop-position.invariant
 
 pub returns-clause-few : goal.returns-clause-few
 returns-clause-few c =

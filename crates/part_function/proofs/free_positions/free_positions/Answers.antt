@@ -1,4 +1,4 @@
-use Rattle.std.proofs.Common.{rules, arith, subst, sym}
+use Rattle.std.proofs.Common.{arith, subst, sym}
 use Rattle.std.specs.FinSet.{contains}
 use Rattle.part_function.proofs.FreeWalk.{AreFreeBelow, first_free, one_more_free}
 use Rattle.part_function.proofs.free_positions.free_positions.Goals as goal

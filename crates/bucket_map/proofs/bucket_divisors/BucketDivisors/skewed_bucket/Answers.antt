@@ -1,4 +1,4 @@
-use Rattle.std.proofs.Common.{◌≡◌, ◌+◌, ◌-◌, ◌%◌, ap, ◌∙◌, arith}
+use Rattle.std.proofs.Common.{◌≡◌, ◌+◌, ◌%◌, ap, ◌∙◌, arith}
 use Rattle.pthash.specs.Sizes.{skewed_bucket_of}
 use Rattle.pthash.specs.SizeLaws.{skewed_bucket_of-front, skewed_bucket_of-back}
 use Rattle.bucket_map.proofs.bucket_divisors.BucketDivisors.skewed_bucket.Goals as goal
