@@ -1,5 +1,5 @@
 // The command `pilots`.
-ghost use Rattle.std.specs.Prelude.{◌≡◌, ◌≢◌, ◌≤◌, ℕ, List, length, IfOk, IfSome, IsSomeAnd, IsErrOf, None, option_map};
+ghost use Rattle.std.specs.Prelude.{◌≡◌, ◌≢◌, ◌≤◌, [], length, IfOk, IfSome, IsSomeAnd, IsErrOf, None, option_map};
 ghost use Rattle.std.specs.FinMap as map;
 ghost use Rattle.build_outcome.specs.Outcome.{built, repeated, exhausted};
 ghost use Rattle.command_words.specs.Options.{options_data};
@@ -113,8 +113,7 @@ fn keys_answer<R: Threads + Sync>(
 
 // The answer on an index that was built.
 fn built_answer(alloc: Global, index: &Built) -> Result<Answer, AllocError>
-    ensures { (seeds : List ℕ) →
-        IfOk result (λ answer. done_of answer ≡ outcome_result seeds (built index.now)) }
+    ensures { IfOk result (λ answer. done_of answer ≡ outcome_result [] (built index.now)) }
 {
     let text = built_text(alloc, index)?;
     Ok(Answer { status: 0, text })
@@ -122,8 +121,7 @@ fn built_answer(alloc: Global, index: &Built) -> Result<Answer, AllocError>
 
 // The refusal of a list with the same key at two places.
 fn repeated_answer(alloc: Global, first: u64, second: u64) -> Result<Answer, AllocError>
-    ensures { (seeds : List ℕ) →
-        IfOk result (λ answer. done_of answer ≡ outcome_result seeds (repeated first second)) }
+    ensures { IfOk result (λ answer. done_of answer ≡ outcome_result [] (repeated first second)) }
 {
     let text = repeated_key_text(alloc, first, second)?;
     Ok(Answer {
