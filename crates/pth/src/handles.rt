@@ -2,15 +2,11 @@
 ghost use Rattle.std.specs.Prelude.{◌≡◌, ◌≤◌, length, IfOk, IsErrOf};
 ghost use Rattle.pth.specs.declared.handles.DiskErr.TheVariants.{Failed, NoMemory};
 
-use std::alloc::{AllocError, AllocGlobal};
-use std::fs::{OpenFile, OpenOptions};
-use std::io::{ErrorKind, Read, Seek, SeekFrom, Write};
-use std::os::fd::{AsRawFd, RawFd};
-use std::os::unix::fs::MetadataExt;
-use std::{fs, io, rt};
-
-// The descriptors up to this one are those of the standard streams.
-const LAST_STANDARD: RawFd = 2;
+use crate::system::System;
+use std::alloc::{AllocError, Global};
+use std::fs::OpenOptions;
+use std::io;
+use std::io::ErrorKind;
 
 /// Why a call on the disk gave up.
 #[derive(Clone, Copy, Debug, PartialEq, Eq)]
@@ -46,20 +42,19 @@ struct Handle<H> {
 
 /// The file that was read last and the one that was written last.
 #[derive(Drop)]
-pub struct Handles<'a, R: rt::Files> {
-    rt: &'a R,
-    reading: Option<Handle<R::File>>,
-    writing: Option<Handle<R::File>>,
+pub struct Handles<'a, S: System> {
+    system: &'a S,
+    alloc: Global,
+    reading: Option<Handle<S::File>>,
+    writing: Option<Handle<S::File>>,
 }
 
-impl<'a, R: rt::Files + AllocGlobal> Handles<'a, R>
-where
-    R::File: AsRawFd,
-{
+impl<'a, S: System> Handles<'a, S> {
     /// No file is open yet.
-    pub fn new(rt: &'a R) -> Self {
+    pub fn new(alloc: Global, system: &'a S) -> Self {
         Self {
-            rt,
+            system,
+            alloc,
             reading: None,
             writing: None,
         }
@@ -72,7 +67,7 @@ where
         ensures kept { IsErrOf result DiskErr.NoMemory → into.new ≡ into.old }
     {
         let mut handle = self.take_reading(name, at)?;
-        let count = handle.read_at(at, into)?;
+        let count = read_from(self.system, &mut handle, at, into)?;
         self.reading = Some(handle);
         Ok(count)
     }
@@ -80,10 +75,10 @@ where
     /// Makes a new file in the place of what has the name. A failure may come after that was taken away.
     pub fn create(&mut self, name: &str) -> Result<(), DiskErr> {
         self.let_go(name);
-        let own_name = String::from_str(self.rt.alloc(), name)?;
-        take_away(self.rt, name)?;
+        let own_name = String::from_str(self.alloc, name)?;
+        take_away(self.system, name)?;
         let handle = Handle::open(
-            self.rt,
+            self.system,
             own_name,
             OpenOptions::new().append(true).create_new(true),
         )?;
@@ -94,7 +89,7 @@ where
     /// Puts the whole piece at the end of the file that was written last, where it has this name, or else of the name's.
     pub fn append(&mut self, name: &str, piece: &[u8]) -> Result<(), DiskErr> {
         let mut handle = self.take_writing(name)?;
-        let written = handle.file.write_all(piece);
+        let written = write_whole(self.system, &mut handle.file, piece);
         self.writing = Some(handle);
         Ok(written?)
     }
@@ -105,17 +100,17 @@ where
         let handle = self.take_writing(from)?;
         self.let_go(from);
         self.let_go(to);
-        Ok(put_in_place(self.rt, &handle.file, from, to)?)
+        Ok(put_in_place(self.system, &handle.file, from, to)?)
     }
 
     /// Takes a file away.
     pub fn remove(&mut self, name: &str) -> Result<(), DiskErr> {
         self.let_go(name);
-        Ok(fs::remove_file(self.rt, name)?)
+        Ok(self.system.remove(name)?)
     }
 
     // The file that a read goes on with: that of the last read, or at its first place the name's.
-    fn take_reading(&mut self, name: &str, at: u64) -> Result<Handle<R::File>, DiskErr> {
+    fn take_reading(&mut self, name: &str, at: u64) -> Result<Handle<S::File>, DiskErr> {
         match self.reading.take() {
             Some(handle) if at > 0 && handle.has_name(name) => Ok(handle),
             _ => self.open(name, OpenOptions::new().read(true)),
@@ -123,16 +118,16 @@ where
     }
 
     // The file that is written on: that of the last write, or the name's.
-    fn take_writing(&mut self, name: &str) -> Result<Handle<R::File>, DiskErr> {
+    fn take_writing(&mut self, name: &str) -> Result<Handle<S::File>, DiskErr> {
         match self.writing.take() {
             Some(handle) if handle.has_name(name) => Ok(handle),
             _ => self.open(name, OpenOptions::new().append(true)),
         }
     }
 
-    fn open(&self, name: &str, how: &OpenOptions) -> Result<Handle<R::File>, DiskErr> {
-        let own_name = String::from_str(self.rt.alloc(), name)?;
-        Ok(Handle::open(self.rt, own_name, how)?)
+    fn open(&self, name: &str, how: &OpenOptions) -> Result<Handle<S::File>, DiskErr> {
+        let own_name = String::from_str(self.alloc, name)?;
+        Ok(Handle::open(self.system, own_name, how)?)
     }
 
     // Closes what is open by a name.
@@ -147,41 +142,42 @@ where
 }
 
 impl<H> Handle<H> {
-    fn has_name(&self, name: &str) -> bool {
-        self.name.as_str() == name
-    }
-}
-
-impl<H: OpenFile + AsRawFd> Handle<H> {
-    fn open<R: rt::Files<File = H>>(rt: &R, name: String, how: &OpenOptions) -> io::Result<Self> {
-        let file = opened(rt, name.as_str(), how)?;
+    fn open<S: System<File = H>>(system: &S, name: String, how: &OpenOptions) -> io::Result<Self> {
+        let file = system.open(how, name.as_str())?;
         Ok(Self {
             name,
             place: 0,
             file,
         })
     }
-}
 
-impl<H: Read + Seek> Handle<H> {
-    // Reads once from a place on, with a seek where another place was reached, and again where a signal came between.
-    fn read_at(&mut self, at: u64, into: &mut [u8]) -> io::Result<usize>
-        ensures { IfOk result (λ count. count ≤ length into.old) }
-    {
-        if at != self.place {
-            self.place = self.file.seek(SeekFrom::Start(at))?;
-        }
-        let count = read_once(&mut self.file, into)?;
-        self.place = self.place.saturating_add(count as u64);
-        Ok(count)
+    fn has_name(&self, name: &str) -> bool {
+        self.name.as_str() == name
     }
 }
 
-fn read_once<H: Read>(file: &mut H, into: &mut [u8]) -> io::Result<usize>
+// Reads once from a place on, with a seek where another place was reached, and again where a signal came between.
+fn read_from<S: System>(
+    system: &S,
+    handle: &mut Handle<S::File>,
+    at: u64,
+    into: &mut [u8],
+) -> io::Result<usize>
+    ensures { IfOk result (λ count. count ≤ length into.old) }
+{
+    if at != handle.place {
+        handle.place = system.seek(&mut handle.file, at)?;
+    }
+    let count = read_once(system, &mut handle.file, into)?;
+    handle.place = handle.place.saturating_add(count as u64);
+    Ok(count)
+}
+
+fn read_once<S: System>(system: &S, file: &mut S::File, into: &mut [u8]) -> io::Result<usize>
     ensures { IfOk result (λ count. count ≤ length into.old) }
 {
     for _ in 0..u64::MAX {
-        match file.read(into) {
+        match system.read(file, into) {
             Ok(count) => return Ok(count),
             Err(e) if e.kind() == ErrorKind::Interrupted => {}
             Err(e) => return Err(e),
@@ -190,23 +186,26 @@ fn read_once<H: Read>(file: &mut H, into: &mut [u8]) -> io::Result<usize>
     Err(io::Error::from(ErrorKind::Interrupted))
 }
 
-// Opens a file by a descriptor above the standard ones. A program that is started without a standard stream would else
-// print into the file that gets its descriptor.
-fn opened<R: rt::Files>(rt: &R, name: &str, how: &OpenOptions) -> io::Result<R::File>
-where
-    R::File: AsRawFd,
-{
-    let file = rt.open_file(how, name)?;
-    if file.as_raw_fd() > LAST_STANDARD {
-        Ok(file)
-    } else {
-        file.try_clone()
+// Writes the piece in as many parts as the system takes it.
+fn write_whole<S: System>(system: &S, file: &mut S::File, piece: &[u8]) -> io::Result<()> {
+    let mut rest = piece;
+    for _ in 0..u64::MAX {
+        if rest.is_empty() {
+            return Ok(());
+        }
+        match system.write(file, rest) {
+            Ok(0) => return Err(io::Error::from(ErrorKind::WriteZero)),
+            Ok(count) => rest = &rest[count..],
+            Err(e) if e.kind() == ErrorKind::Interrupted => {}
+            Err(e) => return Err(e),
+        }
     }
+    Err(io::Error::from(ErrorKind::Interrupted))
 }
 
-// Takes away what has a name, and nothing where the name is free. A link is taken away itself, and not what it points to.
-fn take_away<R: rt::Files>(rt: &R, name: &str) -> io::Result<()> {
-    match fs::remove_file(rt, name) {
+// Takes away what has a name, and nothing where the name is free.
+fn take_away<S: System>(system: &S, name: &str) -> io::Result<()> {
+    match system.remove(name) {
         Err(e) if e.kind() != ErrorKind::NotFound => Err(e),
         _ => Ok(()),
     }
@@ -214,23 +213,20 @@ fn take_away<R: rt::Files>(rt: &R, name: &str) -> io::Result<()> {
 
 // Puts a written file in the place of another, its bytes on the disk first. The folder is opened before the rename, so that
 // all but its sync is refused while the old file stands.
-fn put_in_place<R: rt::Files>(rt: &R, file: &R::File, from: &str, to: &str) -> io::Result<()>
-where
-    R::File: AsRawFd,
-{
-    file.sync_all()?;
-    let folder = opened(rt, folder_of(to), OpenOptions::new().read(true))?;
-    if !is_at(rt, file, from)? {
+fn put_in_place<S: System>(system: &S, file: &S::File, from: &str, to: &str) -> io::Result<()> {
+    system.sync(file)?;
+    let folder = system.open(OpenOptions::new().read(true), folder_of(to))?;
+    if !is_at(system, file, from)? {
         return Err(io::Error::from(ErrorKind::NotFound));
     }
-    fs::rename(rt, from, to)?;
-    folder.sync_all()
+    system.rename(from, to)?;
+    system.sync(&folder)
 }
 
 // Whether a name is that of this open file, and not of a link to it or of another file that took its place.
-fn is_at<R: rt::Files>(rt: &R, file: &R::File, name: &str) -> io::Result<bool> {
-    let (open, named) = (file.metadata()?, fs::symlink_metadata(rt, name)?);
-    Ok(open.dev() == named.dev() && open.ino() == named.ino())
+fn is_at<S: System>(system: &S, file: &S::File, name: &str) -> io::Result<bool> {
+    let (open, named) = (system.identity(file)?, system.identity_at(name)?);
+    Ok(open.0 == named.0 && open.1 == named.1)
 }
 
 // The folder that a name stands in.

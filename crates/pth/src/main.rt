@@ -14,6 +14,7 @@ ghost use Rattle.pth_top.specs.Words.{refused};
 mod disk_files;
 mod handles;
 mod std_sink;
+mod system;
 
 use disk_files::DiskFiles;
 use pth_outside::{Files, Sink};
@@ -26,7 +27,7 @@ use std::{env, io};
 use std_sink::StdSink;
 
 fn main(rt: HostRuntime) -> ExitCode {
-    let mut files = DiskFiles::new(&rt);
+    let mut files = DiskFiles::new(rt.alloc(), &rt);
     let mut out = StdSink::new(&rt);
     let args = env::args(&rt);
     ExitCode::from(answer(&rt, rt.alloc(), args, &mut files, &mut out))

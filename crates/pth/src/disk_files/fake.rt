@@ -1,38 +1,27 @@
-// The files of the disk for a test: one of the calls fails, and a write is taken in parts.
-use std::alloc::{Alloc, Allocator, Global};
+// The system for a test: one of the calls fails, and a write is taken in parts.
+use crate::system::System;
 use std::cell::Cell;
-use std::fs::{File, Metadata, OpenFile, OpenOptions};
-use std::io::{ErrorKind, Read, Seek, SeekFrom, Write};
-use std::os::fd::{AsRawFd, RawFd};
-use std::{io, rt};
+use std::fs::{File, OpenOptions};
+use std::io;
+use std::io::ErrorKind;
 
 // How many bytes a write takes at most.
 const PART: usize = 2;
 
-/// The files of the disk, of which one call fails.
+/// The system, of which one call fails.
 #[derive(Drop)]
-pub struct FakeRuntime<'a> {
+pub struct FakeSystem<'a> {
     rt: &'a HostRuntime,
-    fault: &'a Fault,
-}
-
-/// How many calls are left up to the one that fails, or 0 where none is to come, and its error.
-#[derive(Drop)]
-pub struct Fault {
+    // how many calls are left up to the one that fails, or 0 where none is to come
     left: Cell<u64>,
     kind: ErrorKind,
 }
 
-/// An open file of such a runtime.
-#[derive(Drop)]
-pub struct FakeFile<'a> {
-    file: File,
-    fault: &'a Fault,
-}
-
-impl Fault {
-    pub fn new(kind: ErrorKind) -> Self {
+impl<'a> FakeSystem<'a> {
+    /// No call fails yet.
+    pub fn new(rt: &'a HostRuntime, kind: ErrorKind) -> Self {
         Self {
+            rt,
             left: Cell::new(0),
             kind,
         }
@@ -55,120 +44,51 @@ impl Fault {
     }
 }
 
-impl<'a> FakeRuntime<'a> {
-    pub fn new(rt: &'a HostRuntime, fault: &'a Fault) -> Self {
-        Self { rt, fault }
-    }
-}
+impl System for FakeSystem<'_> {
+    type File = File;
 
-impl Alloc for FakeRuntime<'_> {
-    type A = Global;
-
-    fn alloc(&self) -> Global {
-        self.rt.alloc()
-    }
-}
-
-impl<'a> rt::Files for FakeRuntime<'a> {
-    type File = FakeFile<'a>;
-
-    type Dir = <HostRuntime as rt::Files>::Dir;
-
-    fn open_file(&self, how: &OpenOptions, path: &str) -> io::Result<FakeFile<'a>> {
-        self.fault.meet()?;
-        Ok(FakeFile {
-            file: self.rt.open_file(how, path)?,
-            fault: self.fault,
-        })
+    fn open(&self, how: &OpenOptions, name: &str) -> io::Result<File> {
+        self.meet()?;
+        self.rt.open(how, name)
     }
 
-    fn open_dir(&self, path: &str) -> io::Result<Self::Dir> {
-        self.rt.open_dir(path)
+    fn read(&self, file: &mut File, into: &mut [u8]) -> io::Result<usize> {
+        self.meet()?;
+        self.rt.read(file, into)
     }
 
-    fn metadata(&self, path: &str) -> io::Result<Metadata> {
-        self.rt.metadata(path)
+    fn write(&self, file: &mut File, piece: &[u8]) -> io::Result<usize> {
+        self.meet()?;
+        self.rt.write(file, &piece[..piece.len().min(PART)])
     }
 
-    fn symlink_metadata(&self, path: &str) -> io::Result<Metadata> {
-        self.fault.meet()?;
-        self.rt.symlink_metadata(path)
+    fn seek(&self, file: &mut File, at: u64) -> io::Result<u64> {
+        self.meet()?;
+        self.rt.seek(file, at)
     }
 
-    fn copy(&self, from: &str, to: &str) -> io::Result<u64> {
-        self.rt.copy(from, to)
+    fn sync(&self, file: &File) -> io::Result<()> {
+        self.meet()?;
+        self.rt.sync(file)
+    }
+
+    fn identity(&self, file: &File) -> io::Result<(u64, u64)> {
+        self.meet()?;
+        self.rt.identity(file)
+    }
+
+    fn identity_at(&self, name: &str) -> io::Result<(u64, u64)> {
+        self.meet()?;
+        self.rt.identity_at(name)
     }
 
     fn rename(&self, from: &str, to: &str) -> io::Result<()> {
-        self.fault.meet()?;
+        self.meet()?;
         self.rt.rename(from, to)
     }
 
-    fn remove_file(&self, path: &str) -> io::Result<()> {
-        self.fault.meet()?;
-        self.rt.remove_file(path)
-    }
-
-    fn create_dir(&self, path: &str) -> io::Result<()> {
-        self.rt.create_dir(path)
-    }
-
-    fn remove_dir(&self, path: &str) -> io::Result<()> {
-        self.rt.remove_dir(path)
-    }
-
-    fn remove_dir_all<B: Allocator>(&self, alloc: B, path: &str) -> io::Result<()> {
-        self.rt.remove_dir_all(alloc, path)
-    }
-}
-
-impl Read for FakeFile<'_> {
-    fn read(&mut self, buf: &mut [u8]) -> io::Result<usize> {
-        self.fault.meet()?;
-        self.file.read(buf)
-    }
-}
-
-impl Write for FakeFile<'_> {
-    fn write(&mut self, buf: &[u8]) -> io::Result<usize> {
-        self.fault.meet()?;
-        self.file.write(&buf[..buf.len().min(PART)])
-    }
-
-    fn flush(&mut self) -> io::Result<()> {
-        self.file.flush()
-    }
-}
-
-impl Seek for FakeFile<'_> {
-    fn seek(&mut self, to: SeekFrom) -> io::Result<u64> {
-        self.fault.meet()?;
-        self.file.seek(to)
-    }
-}
-
-impl OpenFile for FakeFile<'_> {
-    fn metadata(&self) -> io::Result<Metadata> {
-        self.fault.meet()?;
-        self.file.metadata()
-    }
-
-    fn set_len(&self, size: u64) -> io::Result<()> {
-        self.file.set_len(size)
-    }
-
-    fn sync_all(&self) -> io::Result<()> {
-        self.fault.meet()?;
-        self.file.sync_all()
-    }
-
-    fn sync_data(&self) -> io::Result<()> {
-        self.file.sync_data()
-    }
-}
-
-impl AsRawFd for FakeFile<'_> {
-    fn as_raw_fd(&self) -> RawFd {
-        self.file.as_raw_fd()
+    fn remove(&self, name: &str) -> io::Result<()> {
+        self.meet()?;
+        self.rt.remove(name)
     }
 }
