@@ -11,12 +11,7 @@ ghost use Rattle.pth_top.specs.declared.TheConstants.{NO_MEMORY};
 ghost use Rattle.pth_top.specs.Texts.{no_memory};
 ghost use Rattle.pth_top.specs.Words.{refused};
 
-mod disk_files;
-mod handles;
-mod std_sink;
-mod system;
-
-use disk_files::DiskFiles;
+use disk_files::{DiskFiles, StdSink};
 use pth_outside::{Files, Sink};
 use pth_top::{run, show_want};
 use std::alloc::Global;
@@ -24,7 +19,6 @@ use std::env::Args;
 use std::io::ErrorKind;
 use std::process::ExitCode;
 use std::{env, io};
-use std_sink::StdSink;
 
 fn main(rt: HostRuntime) -> ExitCode {
     let mut files = DiskFiles::new(rt.alloc(), &rt);

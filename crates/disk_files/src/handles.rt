@@ -1,17 +1,18 @@
 // The files of the disk that were read and written last, kept open from one call to the next.
 ghost use Rattle.std.specs.Prelude.{◌≡◌, ◌≤◌, length, IfOk, IsErrOf};
-ghost use Rattle.pth.specs.declared.handles.DiskErr.TheVariants.{Failed, NoMemory};
+ghost use Rattle.disk_files.specs.declared.handles.DiskErr.TheVariants.{Failed, NoMemory};
 
+use crate::pieces::write_whole;
 use crate::system::System;
 use std::alloc::{AllocError, Global};
 use std::fs::OpenOptions;
 use std::io;
 use std::io::ErrorKind;
 
-/// Why a call on the disk gave up.
+// Why a call on the disk gave up.
 #[derive(Clone, Copy, Debug, PartialEq, Eq)]
-pub enum DiskErr {
-    /// The system refused.
+pub(crate) enum DiskErr {
+    // The system refused.
     Failed,
     NoMemory,
 }
@@ -40,9 +41,9 @@ struct Handle<H> {
     file: H,
 }
 
-/// The file that was read last and the one that was written last.
+// The file that was read last and the one that was written last.
 #[derive(Drop)]
-pub struct Handles<'a, S: System> {
+pub(crate) struct Handles<'a, S: System> {
     system: &'a S,
     alloc: Global,
     reading: Option<Handle<S::File>>,
@@ -50,8 +51,8 @@ pub struct Handles<'a, S: System> {
 }
 
 impl<'a, S: System> Handles<'a, S> {
-    /// No file is open yet.
-    pub fn new(alloc: Global, system: &'a S) -> Self {
+    // No file is open yet.
+    pub(crate) fn new(alloc: Global, system: &'a S) -> Self {
         Self {
             system,
             alloc,
@@ -60,9 +61,9 @@ impl<'a, S: System> Handles<'a, S> {
         }
     }
 
-    /// Reads once. The first place of a file opens its name anew, any other goes on with the file that was read last, and
-    /// a failure lets go of it.
-    pub fn read_at(&mut self, name: &str, at: u64, into: &mut [u8]) -> Result<usize, DiskErr>
+    // Reads once. The first place of a file opens its name anew, any other goes on with the file that was read last, and
+    // a failure lets go of it.
+    pub(crate) fn read_at(&mut self, name: &str, at: u64, into: &mut [u8]) -> Result<usize, DiskErr>
         ensures bound { IfOk result (λ count. count ≤ length into.old) }
         ensures kept { IsErrOf result DiskErr.NoMemory → into.new ≡ into.old }
     {
@@ -72,8 +73,8 @@ impl<'a, S: System> Handles<'a, S> {
         Ok(count)
     }
 
-    /// Makes a new file in the place of what has the name. A failure may come after that was taken away.
-    pub fn create(&mut self, name: &str) -> Result<(), DiskErr> {
+    // Makes a new file in the place of what has the name. A failure may come after that was taken away.
+    pub(crate) fn create(&mut self, name: &str) -> Result<(), DiskErr> {
         self.let_go(name);
         let own_name = String::from_str(self.alloc, name)?;
         take_away(self.system, name)?;
@@ -86,25 +87,25 @@ impl<'a, S: System> Handles<'a, S> {
         Ok(())
     }
 
-    /// Puts the whole piece at the end of the file that was written last, where it has this name, or else of the name's.
-    pub fn append(&mut self, name: &str, piece: &[u8]) -> Result<(), DiskErr> {
+    // Puts the whole piece at the end of the file that was written last, where it has this name, or else of the name's.
+    pub(crate) fn append(&mut self, name: &str, piece: &[u8]) -> Result<(), DiskErr> {
         let mut handle = self.take_writing(name)?;
-        let written = write_whole(self.system, &mut handle.file, piece);
+        let written = write_whole(piece, |part| self.system.write(&mut handle.file, part));
         self.writing = Some(handle);
         Ok(written?)
     }
 
-    /// Puts a file whose bytes are on the disk in the place of another. A failure may come after that, where only the
-    /// folder could not be synced.
-    pub fn publish(&mut self, from: &str, to: &str) -> Result<(), DiskErr> {
+    // Puts a file whose bytes are on the disk in the place of another. A failure may come after that, where only the
+    // folder could not be synced.
+    pub(crate) fn publish(&mut self, from: &str, to: &str) -> Result<(), DiskErr> {
         let handle = self.take_writing(from)?;
         self.let_go(from);
         self.let_go(to);
         Ok(put_in_place(self.system, &handle.file, from, to)?)
     }
 
-    /// Takes a file away.
-    pub fn remove(&mut self, name: &str) -> Result<(), DiskErr> {
+    // Takes a file away.
+    pub(crate) fn remove(&mut self, name: &str) -> Result<(), DiskErr> {
         self.let_go(name);
         Ok(self.system.remove(name)?)
     }
@@ -179,23 +180,6 @@ fn read_once<S: System>(system: &S, file: &mut S::File, into: &mut [u8]) -> io::
     for _ in 0..u64::MAX {
         match system.read(file, into) {
             Ok(count) => return Ok(count),
-            Err(e) if e.kind() == ErrorKind::Interrupted => {}
-            Err(e) => return Err(e),
-        }
-    }
-    Err(io::Error::from(ErrorKind::Interrupted))
-}
-
-// Writes the piece in as many parts as the system takes it.
-fn write_whole<S: System>(system: &S, file: &mut S::File, piece: &[u8]) -> io::Result<()> {
-    let mut rest = piece;
-    for _ in 0..u64::MAX {
-        if rest.is_empty() {
-            return Ok(());
-        }
-        match system.write(file, rest) {
-            Ok(0) => return Err(io::Error::from(ErrorKind::WriteZero)),
-            Ok(count) => rest = &rest[count..],
             Err(e) if e.kind() == ErrorKind::Interrupted => {}
             Err(e) => return Err(e),
         }
