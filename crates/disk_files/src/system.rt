@@ -12,6 +12,7 @@ const LAST_STANDARD: RawFd = 2;
 
 /// A system with files, so that a test can stand in for it. Each call may be refused.
 pub trait System {
+    /// An open file or folder.
     type File: Drop;
 
     /// Opens a file, by a descriptor above the standard ones.
