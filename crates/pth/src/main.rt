@@ -11,11 +11,7 @@ ghost use Rattle.pth_top.specs.declared.TheConstants.{NO_MEMORY};
 ghost use Rattle.pth_top.specs.Texts.{no_memory};
 ghost use Rattle.pth_top.specs.Words.{refused};
 
-mod disk_files;
-mod handles;
-mod std_sink;
-
-use disk_files::DiskFiles;
+use disk_files::{DiskFiles, StdSink};
 use pth_outside::{Files, Sink};
 use pth_top::{run, show_want};
 use std::alloc::Global;
@@ -24,10 +20,9 @@ use std::io::ErrorKind;
 use std::process::ExitCode;
 use std::thread::Threads;
 use std::{env, io};
-use std_sink::StdSink;
 
 fn main(rt: HostRuntime) -> ExitCode {
-    let mut files = DiskFiles::new(&rt);
+    let mut files = DiskFiles::new(rt.alloc(), &rt);
     let mut out = StdSink::new(&rt);
     let args = env::args(&rt);
     ExitCode::from(answer(&rt, rt.alloc(), args, &mut files, &mut out))

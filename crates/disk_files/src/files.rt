@@ -3,35 +3,28 @@ ghost use Rattle.std.specs.Prelude.{◌≡◌, ◌≤◌, None, false, IsErrOf, 
 ghost use Rattle.pth_outside.specs.Files.{Rose};
 
 use crate::handles::{DiskErr, Handles};
+use crate::system::System;
 use pth_outside::{FileErr, Files};
-use std::alloc::AllocGlobal;
-use std::os::fd::AsRawFd;
-use std::rt;
+use std::alloc::Global;
 
 /// The files of the disk by their paths, with a count of the calls that failed.
 #[derive(Drop)]
-pub struct DiskFiles<'a, R: rt::Files> {
-    handles: Handles<'a, R>,
+pub struct DiskFiles<'a, S: System> {
+    handles: Handles<'a, S>,
     faults: u64,
 }
 
-impl<'a, R: rt::Files + AllocGlobal> DiskFiles<'a, R>
-where
-    R::File: AsRawFd,
-{
+impl<'a, S: System> DiskFiles<'a, S> {
     /// All the files that the program may reach.
-    pub fn new(rt: &'a R) -> Self {
+    pub fn new(alloc: Global, system: &'a S) -> Self {
         Self {
-            handles: Handles::new(rt),
+            handles: Handles::new(alloc, system),
             faults: 0,
         }
     }
 }
 
-impl<R: rt::Files + AllocGlobal> Files for DiskFiles<'_, R>
-where
-    R::File: AsRawFd,
-{
+impl<S: System> Files for DiskFiles<'_, S> {
     ghost state = { λ f. record { told = None; faults = f.faults; sure = false } };
 
     fn read_at(&mut self, name: &str, at: u64, into: &mut [u8]) -> Result<usize, FileErr> {
