@@ -71,8 +71,11 @@ counts_at-sum n parts few bytes at words w is high other =
     let none : length ws ≤ below_len 67108865 ws =
     subst (λ (ks : List ℕ). length ks ≤ below_len 67108865 ks) w.are (omega (arith, all)) in
     let differs : sum ws ≡ n → ⊥ = λ e. other (ap sum w.are ∙ e) in
-    rw (le-ltb (length (drop at bytes)) (8 * parts) (AreWords-long bytes at parts words w), le-ltb (below_len 67108865 ws) (length ws) none,
-      ne_eqb (sum ws) n differs) (ap (λ (ks : List ℕ). Err (faults.Count n (sum ks))) (sym w.are))
+    rw (
+      le-ltb (length (drop at bytes)) (8 * parts) (AreWords-long bytes at parts words w),
+      le-ltb (below_len 67108865 ws) (length ws) none,
+      ne_eqb (sum ws) n differs,
+    ) (ap (λ (ks : List ℕ). Err (faults.Count n (sum ks))) (sym w.are))
 
 -- numbers of keys without a fault
 pub counts_at-ok : (n parts few : ℕ) (bytes : List ℕ) (at : ℕ) (words : List ℕ) → AreWords bytes at parts words → few ≡ below_len 67108865 words →
@@ -84,8 +87,11 @@ counts_at-ok n parts few bytes at words w is high adds =
     let none : length ws ≤ below_len 67108865 ws =
     subst (λ (ks : List ℕ). length ks ≤ below_len 67108865 ks) w.are (omega (arith, all)) in
     let same : sum ws ≡ n = sym (ap sum w.are) ∙ adds in
-    rw (le-ltb (length (drop at bytes)) (8 * parts) (AreWords-long bytes at parts words w), le-ltb (below_len 67108865 ws) (length ws) none,
-      eq-eqb (sum ws) n same) (λ i. Ok (sym w.are i, drop-drop (8 * parts) at bytes i))
+    rw (
+      le-ltb (length (drop at bytes)) (8 * parts) (AreWords-long bytes at parts words w),
+      le-ltb (below_len 67108865 ws) (length ws) none,
+      eq-eqb (sum ws) n same,
+    ) (λ i. Ok (sym w.are i, drop-drop (8 * parts) at bytes i))
 
 -- a mark that stands at a place
 pub mark_at-some : (version : ℕ) (bytes : List ℕ) (at sum_is xor_is : ℕ) → at ≤ length bytes → at + 16 ≤ length bytes → version ≡ 2 →

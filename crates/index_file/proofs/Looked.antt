@@ -131,10 +131,13 @@ no_value x key = by_test (keys == 0) refl
   where
     q : ℕ
     q = partition_of (first_hash key x.seed) (second_hash key x.seed) (length x.parts)
+
     keys : ℕ
     keys = (part_at x.parts q).n
+
     value : ℕ
     value = position_value keys (part_at x.parts q).free (pair_position x.shape.map x.seed (part_at x.parts q) (first_hash key x.seed) (second_hash key x.seed))
+
     by_test : (t : Bool) → (keys == 0) ≡ t → (option_map (λ v. key_count (take q x.parts) + v) (cond t None (Some value)) ≡ None) ↔ (keys ≡ 0)
     by_test true is = (λ none. eqb-true keys 0 is, λ none. refl)
     by_test false is = (λ none. absurd cc, λ none. absurd (eqb-false keys 0 is none))

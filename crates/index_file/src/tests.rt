@@ -1,8 +1,8 @@
 // Files that are read as what they are, or refused by their first fault.
 use super::*;
-use pilot_codecs::FormFault;
 use bucket_map::{Map, Shape};
 use murmur64::murmur64;
+use pilot_codecs::FormFault;
 use std::alloc::Global;
 use std::process::Abort;
 use std::test::*;
@@ -27,7 +27,13 @@ const UNMARKED_FILE: [u8; 144] = [
 ];
 
 // The same bytes with others in place of some, and the digest that belongs to them.
-fn with(rt: &impl Abort, alloc: Global, file: &[u8], at: usize, new: &[u8]) -> Result<Vec<u8>, Fail> {
+fn with(
+    rt: &impl Abort,
+    alloc: Global,
+    file: &[u8],
+    at: usize,
+    new: &[u8],
+) -> Result<Vec<u8>, Fail> {
     assert!(rt; file.len() >= 8);
     let body = file.len() - 8;
     assert!(rt; at <= body);
@@ -84,9 +90,9 @@ fn a_changed_bit_is_seen(rt: HostRuntime) -> Result<(), Fail> {
     for file in [MARKED_FILE.as_slice(), UNMARKED_FILE.as_slice()] {
         let mut bytes = Vec::from_slice(alloc, file)?;
         for at in 0..bytes.len() {
-            for bit in 0..8 {
+            for mask in [1, 2, 4, 8, 16, 32, 64, 128] {
                 let before = bytes[at];
-                bytes[at] = before ^ (1 << bit);
+                bytes[at] = before ^ mask;
                 match read_index(alloc, &bytes) {
                     Err(IndexFault::Magic) => assert!(rt; at < 4),
                     Err(IndexFault::Version { found }) => {
@@ -94,7 +100,7 @@ fn a_changed_bit_is_seen(rt: HostRuntime) -> Result<(), Fail> {
                         assert_eq!(rt; found, bytes[4]);
                     }
                     Err(IndexFault::Digest { .. }) => assert!(rt; at > 4),
-                    _ => panic!(rt; "bit {bit} of byte {at}"),
+                    _ => panic!(rt; "bits {mask} of byte {at}"),
                 }
                 bytes[at] = before;
             }
@@ -120,8 +126,16 @@ fn fields_with_the_right_digest_are_refused_in_their_order(rt: HostRuntime) -> R
         (6, [5].as_slice(), IndexFault::Encoding),
         (7, [2].as_slice(), IndexFault::Encoding),
         (16, number(0).as_slice(), IndexFault::Field { at: 16 }),
-        (16, number(67_108_865).as_slice(), IndexFault::Field { at: 16 }),
-        (16, number(2).as_slice(), IndexFault::Count { kept: 2, sum: 1 }),
+        (
+            16,
+            number(67_108_865).as_slice(),
+            IndexFault::Field { at: 16 },
+        ),
+        (
+            16,
+            number(2).as_slice(),
+            IndexFault::Count { kept: 2, sum: 1 },
+        ),
         (24, number(49).as_slice(), IndexFault::Field { at: 24 }),
         (24, number(101).as_slice(), IndexFault::Field { at: 24 }),
         (32, number(99).as_slice(), IndexFault::Field { at: 32 }),
@@ -129,9 +143,21 @@ fn fields_with_the_right_digest_are_refused_in_their_order(rt: HostRuntime) -> R
         (40, number(0).as_slice(), IndexFault::Field { at: 40 }),
         (40, number(4097).as_slice(), IndexFault::Field { at: 40 }),
         (40, number(4096).as_slice(), IndexFault::Short),
-        (64, number(67_108_865).as_slice(), IndexFault::Field { at: 64 }),
-        (96, [4].as_slice(), IndexFault::Form(FormFault { at: 96, kind: 3 })),
-        (80, number(4_294_967_295).as_slice(), IndexFault::Pilot { part: 0, bucket: 0 }),
+        (
+            64,
+            number(67_108_865).as_slice(),
+            IndexFault::Field { at: 64 },
+        ),
+        (
+            96,
+            [4].as_slice(),
+            IndexFault::Form(FormFault { at: 96, kind: 3 }),
+        ),
+        (
+            80,
+            number(4_294_967_295).as_slice(),
+            IndexFault::Pilot { part: 0, bucket: 0 },
+        ),
     ] {
         let bytes = with(&rt, alloc, &MARKED_FILE, at, new)?;
         refused(&rt, alloc, &bytes, fault);
@@ -154,7 +180,12 @@ fn lists_with_the_right_digest_are_refused(rt: HostRuntime) -> Result<(), Fail> 
     let long = longer(&rt, alloc, &UNMARKED_FILE, &number(0))?;
     refused(&rt, alloc, &long, IndexFault::Long { at: 136 });
     let padding = with(&rt, alloc, &UNMARKED_FILE, 80, &[4])?;
-    refused(&rt, alloc, &padding, IndexFault::Form(FormFault { at: 80, kind: 3 }));
+    refused(
+        &rt,
+        alloc,
+        &padding,
+        IndexFault::Form(FormFault { at: 80, kind: 3 }),
+    );
     let low = with(&rt, alloc, &UNMARKED_FILE, 24, &[49])?;
     refused(&rt, alloc, &low, IndexFault::Field { at: 24 });
     let more = with(&rt, alloc, &UNMARKED_FILE, 16, &[2])?;
