@@ -7,3 +7,4 @@ pub mod PartitionSteps
 pub mod Whole
 pub mod Looked
 pub mod Written
+pub mod CallerLemmas

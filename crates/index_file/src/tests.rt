@@ -90,9 +90,9 @@ fn a_changed_bit_is_seen(rt: HostRuntime) -> Result<(), Fail> {
     for file in [MARKED_FILE.as_slice(), UNMARKED_FILE.as_slice()] {
         let mut bytes = Vec::from_slice(alloc, file)?;
         for at in 0..bytes.len() {
-            for bit in 0..8 {
+            for mask in [1, 2, 4, 8, 16, 32, 64, 128] {
                 let before = bytes[at];
-                bytes[at] = before ^ (1 << bit);
+                bytes[at] = before ^ mask;
                 match read_index(alloc, &bytes) {
                     Err(IndexFault::Magic) => assert!(rt; at < 4),
                     Err(IndexFault::Version { found }) => {
@@ -100,7 +100,7 @@ fn a_changed_bit_is_seen(rt: HostRuntime) -> Result<(), Fail> {
                         assert_eq!(rt; found, bytes[4]);
                     }
                     Err(IndexFault::Digest { .. }) => assert!(rt; at > 4),
-                    _ => panic!(rt; "bit {bit} of byte {at}"),
+                    _ => panic!(rt; "bits {mask} of byte {at}"),
                 }
                 bytes[at] = before;
             }
