@@ -1,5 +1,5 @@
 // Chains that are pushed, of which the longest is spilled.
-ghost use Rattle.std.specs.Prelude.{◌≡◌, ◌≢◌, ℕ, ◌+◌, ◌<◌, ◌≤◌, [], ◌∷◌, ◌++◌, length, drop, slice_index_or, All, IfOk, IfSome, IsNone, IsTrue, IsFalse};
+ghost use Rattle.std.specs.Prelude.{◌≡◌, ◌≢◌, ◌↔◌, ℕ, ◌+◌, ◌<◌, ◌≤◌, [], ◌∷◌, ◌++◌, length, drop, slice_index_or, All, IfOk, IfSome, IsNone, IsTrue, IsFalse};
 ghost use Rattle.block_pool.specs.declared.blocks.TheConstants.{BLOCK_RECORDS};
 ghost use Rattle.block_pool.specs.Chains.{chain_at, with_chain, blocks_of, held_blocks};
 
@@ -17,7 +17,7 @@ pub fn three_chains(
     spilled: &mut Vec<Record>,
 ) -> Result<Option<(Pool, u32)>, NoMemory>
     ensures none { IfOk result (λ made. IsNone made
-        → 16 < blocks_of first.now + blocks_of second.now + blocks_of third.now) }
+        ↔ 16 < blocks_of first.now + blocks_of second.now + blocks_of third.now) }
 
     ensures longest { IfOk result (λ made. IfSome made (λ it. All (λ records. length records
         ≤ length (slice_index_or (first.now ∷ second.now ∷ third.now ∷ []) it.1 []))
@@ -50,13 +50,15 @@ pub fn three_chains(
 
 // Pushes records to a chain while there is room, and tells whether all were kept.
 fn push_all(pool: &mut Pool, chain: u32, records: &[Record]) -> bool
-    requires { chain < length pool.old.chains }
+    requires present { chain < length pool.old.chains }
+    requires within { held_blocks pool.old ≤ pool.old.blocks }
     ensures kept { IsTrue result
         → pool.new ≡ with_chain pool.old chain (chain_at pool.old chain ++ records.now) }
 
     ensures full { IsFalse result → pool.old.blocks
         < held_blocks (with_chain pool.old chain (chain_at pool.old chain ++ records.now)) }
 
+    ensures within { held_blocks pool.new ≤ pool.new.blocks }
     ensures chains { length pool.new.chains ≡ length pool.old.chains }
 {
     for item in records {
