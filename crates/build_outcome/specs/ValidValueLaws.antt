@@ -32,6 +32,7 @@ part_value-lt shape spread seed part a b valid = by_keys (part.n == 0) refl
   where
     value : ℕ
     value = position_value part.n part.free (pair_position spread seed part a b)
+
     by_keys : (t : Bool) → (part.n == 0) ≡ t → IfSome (cond t None (Some value)) (λ v. v < part.n)
     by_keys true none = tt
     by_keys false some =

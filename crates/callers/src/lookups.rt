@@ -10,11 +10,7 @@ use index_file::{Index, IndexFault, KeyMark, read_index, write_marked};
 use std::alloc::Global;
 
 /// The number of a key in the index that these bytes are.
-pub fn number_of_key(
-    alloc: Global,
-    bytes: &[u8],
-    key: &[u8],
-) -> Result<Option<u64>, IndexFault>
+pub fn number_of_key(alloc: Global, bytes: &[u8], key: &[u8]) -> Result<Option<u64>, IndexFault>
     ensures value { (x : IndexData) (enc : Encoding) → IsIndex bytes.now x enc
         → IfOk result (λ number. number ≡ value_of x key.now) }
     // The file of an index has no fault.

@@ -70,9 +70,9 @@ checked_short at high_at count last w place low high e =
     elim (guard_err (not (eqb (ones high) count)) (fault high_at 5) (fault place 1) (cond (not (rises 0 got)) (Err (fault (at + 8) 4)) ends) e) [
       | inl p ↦ other_kind high_at place 5 (λ k. omega (arith, k)) p.1
       | inr q ↦ elim (guard_err (not (rises 0 got)) (fault (at + 8) 4) (fault place 1) ends q) [
-          | inl p ↦ other_kind (at + 8) place 4 (λ k. omega (arith, k)) p.1
-          | inr r ↦ other_kind at place 6 (λ k. omega (arith, k)) (guard_last_err (eqb (last_of 0 got) last) got (fault at 6) (fault place 1) r)
-        ]
+        | inl p ↦ other_kind (at + 8) place 4 (λ k. omega (arith, k)) p.1
+        | inr r ↦ other_kind at place 6 (λ k. omega (arith, k)) (guard_last_err (eqb (last_of 0 got) last) got (fault at 6) (fault place 1) r)
+      ]
     ]
 
 -- what is short is the low bits, or the high bits behind them
@@ -88,13 +88,13 @@ parts_short at count last w place bytes e =
     checked at high_at count last w low.0 high.0 >>= λ values. Ok (values, high.1)) d e) [
       | inl first ↦ inl first
       | inr a ↦ elim (bind_err (run_at high_at (high_len count last w) a.0.1) (λ high.
-        checked at high_at count last w a.0.0 high.0 >>= λ values. Ok (values, high.1)) d a.2) [
-          | inl second ↦ inr (a.0, a.1, second)
-          | inr b ↦ elim (bind_err (checked at high_at count last w a.0.0 b.0.0) (λ values. Ok (values, b.0.1)) d b.2) [
+          checked at high_at count last w a.0.0 high.0 >>= λ values. Ok (values, high.1)) d a.2) [
+            | inl second ↦ inr (a.0, a.1, second)
+            | inr b ↦ elim (bind_err (checked at high_at count last w a.0.0 b.0.0) (λ values. Ok (values, b.0.1)) d b.2) [
               | inl third ↦ absurd (checked_short at high_at count last w place a.0.0 b.0.0 third)
               | inr c ↦ absurd (let none : Ok (c.0, b.0.1) ≡ Err d = c.2 in cc)
             ]
-        ]
+          ]
     ]
 
 -- an error is told, where memory isn't wanted before the first words are there

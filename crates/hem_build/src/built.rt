@@ -36,11 +36,21 @@ impl Model for Built {
 
     ghost Value = { IndexData };
 
-    ghost view = { λ a. record { seed = a.seed; n = a.n; shape = shape_data a.shape;
-        parts = a.parts.items; mark = Some a.mark } };
+    ghost view = { λ a. record {
+      seed = a.seed;
+      n = a.n;
+      shape = shape_data a.shape;
+      parts = a.parts.items;
+      mark = Some a.mark;
+    } };
 
-    ghost invariant = { λ a. IsHeldIndex (record { seed = a.seed; n = a.n; shape = shape_data a.shape;
-        parts = a.parts.items; mark = Some a.mark }) a.starts.items };
+    ghost invariant = { λ a. IsHeldIndex (record {
+      seed = a.seed;
+      n = a.n;
+      shape = shape_data a.shape;
+      parts = a.parts.items;
+      mark = Some a.mark;
+    }) a.starts.items };
 }
 
 impl Built {
@@ -53,10 +63,20 @@ impl Built {
         parts: Vec<Part>,
         mark: KeyMark,
     ) -> Result<Self, NoMemory>
-        requires { IsValidIndex (record { seed = seed; n = n; shape = shape_data shape;
-            parts = parts.items; mark = Some mark }) }
-        ensures { IfOk result (λ built. built ≡ record { seed = seed; n = n;
-            shape = shape_data shape; parts = parts.items; mark = Some mark }) }
+        requires { IsValidIndex (record {
+          seed = seed;
+          n = n;
+          shape = shape_data shape;
+          parts = parts.items;
+          mark = Some mark;
+        }) }
+        ensures { IfOk result (λ built. built ≡ record {
+          seed = seed;
+          n = n;
+          shape = shape_data shape;
+          parts = parts.items;
+          mark = Some mark;
+        }) }
     {
         let starts = starts_of(alloc, &parts)?;
         Ok(Self {

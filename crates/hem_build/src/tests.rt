@@ -88,7 +88,13 @@ fn built<R: Abort + AllocGlobal + Threads + Sync>(
 #[test]
 fn stuck_seeds_have_their_first_stuck_partition(rt: HostRuntime) -> Result<(), Fail> {
     for (count, parts, limit, seeds, stuck) in [
-        (90, 8, 7, [103, 105].as_slice(), [(6, 25), (2, 6)].as_slice()),
+        (
+            90,
+            8,
+            7,
+            [103, 105].as_slice(),
+            [(6, 25), (2, 6)].as_slice(),
+        ),
         (90, 8, 7, &[110, 117], &[(3, 8), (3, 17)]),
         (100, 8, 1, &[1], &[(0, 1)]),
         (100, 8, 6, &[3, 40, 41], &[(0, 27), (1, 4), (0, 5)]),
@@ -197,7 +203,13 @@ fn clashes_are_told_from_repeats(rt: HostRuntime) -> Result<(), Fail> {
                 Err(Refusal::SeedsExhausted { causes }) => {
                     assert!(rt; !repeat);
                     for cause in &causes.list {
-                        assert_eq!(rt; *cause, Cause::SameHash { first: 0, second: 1 });
+                        assert_eq!(rt;
+                            *cause,
+                            Cause::SameHash {
+                                first: 0,
+                                second: 1
+                            }
+                        );
                     }
                 }
                 _ => panic!(rt; "by {how:?}"),

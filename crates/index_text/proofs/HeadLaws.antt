@@ -142,7 +142,7 @@ unfolding head_of
 head_takes bytes fits some magic =
     let text : bytes ≡ MAGIC ++ drop 4 bytes = sym (take-append-drop 4 bytes) ∙ ap (λ (t : List ℕ). t ++ drop 4 bytes) magic in (
       text ∙ ap (λ (t : List ℕ). MAGIC ++ t) (bytes_text bytes (omega arith)
-      ∙ ap (λ (t : List ℕ). slice_index bytes 4 ∷ slice_index bytes 5 ∷ slice_index bytes 6 ∷ slice_index bytes 7 ∷ t) (numbers_text bytes fits some)),
+          ∙ ap (λ (t : List ℕ). slice_index bytes 4 ∷ slice_index bytes 5 ∷ slice_index bytes 6 ∷ slice_index bytes 7 ∷ t) (numbers_text bytes fits some)),
       record {
         seed = word_at-lt 8 bytes fits;
         n = word_at-lt 16 bytes fits;

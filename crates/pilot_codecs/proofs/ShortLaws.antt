@@ -59,11 +59,11 @@ packed_short at count w place bytes e =
     (cond (not (eqb (digits_of (greatest got)) w)) (Err (fault at 2)) last) e) [
       | inl p ↦ (sym (ap (λ (f : FormFault). f.at) p.1), ltb-true _ _ p.0)
       | inr q ↦ elim (guard_err (not (eqb (digits_of (greatest got)) w)) (fault at 2) (fault place 1) last q) [
-          | inl p ↦ absurd (other_kind at place 2 (λ k. omega (arith, k)) p.1)
-          | inr r ↦
-              let same = guard_last_err (ltb n (2 ^ (count * w))) (got, drop (8 * size) bytes) (fault (at + 8 + 8 * size - 8) 3) (fault place 1) r in
-              absurd (other_kind (at + 8 + 8 * size - 8) place 3 (λ k. omega (arith, k)) same)
-        ]
+        | inl p ↦ absurd (other_kind at place 2 (λ k. omega (arith, k)) p.1)
+        | inr r ↦
+            let same = guard_last_err (ltb n (2 ^ (count * w))) (got, drop (8 * size) bytes) (fault (at + 8 + 8 * size - 8) 3) (fault place 1) r in
+            absurd (other_kind (at + 8 + 8 * size - 8) place 3 (λ k. omega (arith, k)) same)
+      ]
     ]
 
 -- a list in one width is short at its place or behind
@@ -75,9 +75,9 @@ compact_from at count place bytes e =
     (λ width. cond (eqb width.0 0 || ltb 64 width.0) (Err (fault at 2)) (packed_at at count width.0 width.1)) d e) [
       | inl first ↦ omega (arith, number_short at place bytes first)
       | inr a ↦ elim (guard_err (eqb a.0.0 0 || ltb 64 a.0.0) (fault at 2) d (packed_at at count a.0.0 a.0.1) a.2) [
-          | inl p ↦ absurd (other_kind at place 2 (λ k. omega (arith, k)) p.1)
-          | inr q ↦ omega (arith, (packed_short at count a.0.0 place a.0.1 q).0)
-        ]
+        | inl p ↦ absurd (other_kind at place 2 (λ k. omega (arith, k)) p.1)
+        | inr q ↦ omega (arith, (packed_short at count a.0.0 place a.0.1 q).0)
+      ]
     ]
 
 -- no test of the indexes is about the length
@@ -89,9 +89,9 @@ used_short at place ds places e =
     elim (guard_err (not (are_below (length ds) places)) (fault (at + 8 + 8 * length ds + 8) 5) d last e) [
       | inl p ↦ other_kind (at + 8 + 8 * length ds + 8) place 5 (λ k. omega (arith, k)) p.1
       | inr q ↦ elim (guard_err (not (are_used (length ds) places)) (fault at 5) d (Ok (looked_up ds places)) q) [
-          | inl p ↦ other_kind at place 5 (λ k. omega (arith, k)) p.1
-          | inr r ↦ not_both r
-        ]
+        | inl p ↦ other_kind at place 5 (λ k. omega (arith, k)) p.1
+        | inr r ↦ not_both r
+      ]
     ]
 
 -- behind the entries it is the indexes that are short
@@ -103,9 +103,9 @@ indexed_short at count place ds bytes e =
     elim (bind_err (compact_at (at + 8 + 8 * length ds) count bytes) (λ places. used_at at ds places.0 >>= λ values. Ok (values, places.1)) d e) [
       | inl first ↦ first
       | inr a ↦ elim (bind_err (used_at at ds a.0.0) (λ values. Ok (values, a.0.1)) d a.2) [
-          | inl u ↦ absurd (used_short at place ds a.0.0 u)
-          | inr b ↦ absurd (not_both b.2)
-        ]
+        | inl u ↦ absurd (used_short at place ds a.0.0 u)
+        | inr b ↦ absurd (not_both b.2)
+      ]
     ]
 
 -- a dictionary is short in its entries, or behind them
@@ -120,12 +120,12 @@ entries_short at count size place bytes e =
     elim (guard_err (ltb (length bytes) (8 * size)) (fault (at + 8) 1) d risen e) [
       | inl p ↦ inl (ltb-true _ _ p.0)
       | inr q ↦ elim (guard_err (ltb (rise_len ds) size) (fault (at + 8 + 8 * rise_len ds) 4) d rest q) [
-          | inl p ↦ absurd (other_kind (at + 8 + 8 * rise_len ds) place 4 (λ k. omega (arith, k)) p.1)
-          | inr r ↦
-              let behind = indexed_short at count place ds (drop (8 * size) bytes) r in
-              let from = compact_from (at + 8 + 8 * length ds) count place (drop (8 * size) bytes) behind in
-              inr (omega (arith, from, length-words_in size bytes))
-        ]
+        | inl p ↦ absurd (other_kind (at + 8 + 8 * rise_len ds) place 4 (λ k. omega (arith, k)) p.1)
+        | inr r ↦
+            let behind = indexed_short at count place ds (drop (8 * size) bytes) r in
+            let from = compact_from (at + 8 + 8 * length ds) count place (drop (8 * size) bytes) behind in
+            inr (omega (arith, from, length-words_in size bytes))
+      ]
     ]
 
 -- a fault of the list of steps is one of the sums
@@ -164,9 +164,9 @@ groups_from (suc n) at count place bytes e =
     Ok (first.0 ∷ others.0, others.1)) d e) [
       | inl one ↦ compact_from at (min 256 count) place bytes one
       | inr a ↦ elim (bind_err (groups_at n (at + (length bytes - length a.0.1)) (count - 256) a.0.1) (λ others. Ok (a.0.0 ∷ others.0, others.1)) d a.2) [
-          | inl more ↦ omega (arith, groups_from n (at + (length bytes - length a.0.1)) (count - 256) place a.0.1 more)
-          | inr b ↦ absurd (not_both b.2)
-        ]
+        | inl more ↦ omega (arith, groups_from n (at + (length bytes - length a.0.1)) (count - 256) place a.0.1 more)
+        | inr b ↦ absurd (not_both b.2)
+      ]
     ]
 
 -- a group that has values takes at least 16 bytes
@@ -191,11 +191,11 @@ groups_short left place there bytes fits some e =
     Ok (first.0 ∷ others.0, others.1)) d more) [
       | inl one ↦ inl one
       | inr a ↦ elim (bind_err (groups_at n (place + (length bytes - length a.0.1)) (left - 256) a.0.1) (λ others. Ok (a.0.0 ∷ others.0, others.1)) d a.2) [
-          | inl behind ↦
-              let t = compact_takes place (min 256 left) bytes a.0.0 a.0.1 fits a.1 in
-              let long = group_long a.0.0 (omega (arith, t.count_is, some)) in
-              let size = ap length t.taken.parts ∙ length-append (compact_text a.0.0) a.0.1 in
-              inr (omega (arith, groups_from n (place + (length bytes - length a.0.1)) (left - 256) there a.0.1 behind, long, size))
-          | inr b ↦ absurd (not_both b.2)
-        ]
+        | inl behind ↦
+            let t = compact_takes place (min 256 left) bytes a.0.0 a.0.1 fits a.1 in
+            let long = group_long a.0.0 (omega (arith, t.count_is, some)) in
+            let size = ap length t.taken.parts ∙ length-append (compact_text a.0.0) a.0.1 in
+            inr (omega (arith, groups_from n (place + (length bytes - length a.0.1)) (left - 256) there a.0.1 behind, long, size))
+        | inr b ↦ absurd (not_both b.2)
+      ]
     ]

@@ -543,10 +543,24 @@ fn bounds(rt: HostRuntime) -> Result<(), Fail> {
         }
         for front in CODES {
             let back = None;
-            check_below(&rt, rt.alloc(), &values, Encoding { front, back }, bound, below)?;
+            check_below(
+                &rt,
+                rt.alloc(),
+                &values,
+                Encoding { front, back },
+                bound,
+                below,
+            )?;
             for code in CODES {
                 let back = Some(code);
-                check_below(&rt, rt.alloc(), &values, Encoding { front, back }, bound, below)?;
+                check_below(
+                    &rt,
+                    rt.alloc(),
+                    &values,
+                    Encoding { front, back },
+                    bound,
+                    below,
+                )?;
             }
         }
     }

@@ -1,6 +1,5 @@
 use Rattle.std.proofs.Common.{◌≡◌, ℕ, List, length, drop, sym, ap, subst, ◌∙◌}
 use Rattle.std.specs.Prelude.{IfOk}
-use Rattle.build_outcome.specs.KeyMarkData.{key_mark_data}
 use Rattle.index_text.specs.Text.{IsIndex}
 use Rattle.index_file.specs.Encoded.{marked}
 use Rattle.index_file.proofs.CallerLemmas.{value_of-marked}
@@ -9,7 +8,7 @@ use Rattle.callers.proofs.lookups.number_read_again.Goals as goal
 pub returns-clause-value : goal.returns-clause-value
 returns-clause-value c =
     let x = c.args.index.now.index in
-    let mark = key_mark_data c.args.mark in
+    let mark = c.args.mark in
     let enc = c.args.index.now.enc in
     let out = c.write_marked.new.out.items in
     let bytes : drop (length c.new-bytes.result.items) out ≡ c.deref.result.now =

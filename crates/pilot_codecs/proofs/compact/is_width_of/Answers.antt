@@ -58,9 +58,11 @@ returns c =
     let bits = bits_of (count * w) n in
     let fs = fields count w bits in
     let below : (k : ℕ) → k < length fs → get_or fs k 0 < 2 ^ (w - 1) =
-    λ k lt. c.loop-i.invariant k (omega (arith, lt, length-fields count w bits, c.loop-i-test.false)) in
-    (λ t. absurd (false≢true t), λ e. absurd (top_missed fs w (w - 1) (omega (arith, c.requires.some)) (omega (
-      arith,
-      c.requires.some,
-      c.if-width-eq1.false,
-    )) below e))
+    λ k lt. c.loop-i.invariant k (omega (arith, lt, length-fields count w bits, c.loop-i-test.false)) in (
+      λ t. absurd (false≢true t),
+      λ e. absurd (top_missed fs w (w - 1) (omega (arith, c.requires.some)) (omega (
+        arith,
+        c.requires.some,
+        c.if-width-eq1.false,
+      )) below e),
+    )
