@@ -7,4 +7,5 @@ pub mod PartitionSteps
 pub mod Whole
 pub mod Looked
 pub mod Written
+pub mod BuiltWritten
 pub mod CallerLemmas

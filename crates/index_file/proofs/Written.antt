@@ -21,22 +21,22 @@ use Rattle.index_file.specs.Held.{parts_data, held_data, IsHeld, IsUnder}
 use Rattle.index_file.specs.Pieces.{count_text, own_text}
 
 -- the pieces of the first i parts were appended
-pub record ArePieces (piece : Option Lists → List ℕ) (parts : List (Option Lists)) (old : List ℕ) (i : ℕ) (out : List ℕ) : Type 0 where
+pub record ArePieces {A : Type 0} (piece : A → List ℕ) (parts : List A) (old : List ℕ) (i : ℕ) (out : List ℕ) : Type 0 where
   pub all : out ++ flat_map piece (drop i parts) ≡ old ++ flat_map piece parts
   pub kept : take (length old) out ≡ old
 
 -- one piece more
-pub pieces_more : (piece : Option Lists → List ℕ) (parts : List (Option Lists)) (old : List ℕ) (i : ℕ) (out : List ℕ) → i < length parts →
+pub pieces_more : {A : Type 0} (piece : A → List ℕ) (parts : List A) (d : A) (old : List ℕ) (i : ℕ) (out : List ℕ) → i < length parts →
     out ++ flat_map piece (drop i parts) ≡ old ++ flat_map piece parts →
-    (out ++ piece (get_or parts i None)) ++ flat_map piece (drop (i + 1) parts) ≡ old ++ flat_map piece parts
-pieces_more piece parts old i out within so_far =
-    let next : drop i parts ≡ get_or parts i None ∷ drop (i + 1) parts =
-    drop-cons parts i None within ∙ ap (λ (k : ℕ). get_or parts i None ∷ drop k parts) (sym (add-one i)) in
-    append_assoc out (piece (get_or parts i None)) (flat_map piece (drop (i + 1) parts))
+    (out ++ piece (get_or parts i d)) ++ flat_map piece (drop (i + 1) parts) ≡ old ++ flat_map piece parts
+pieces_more piece parts d old i out within so_far =
+    let next : drop i parts ≡ get_or parts i d ∷ drop (i + 1) parts =
+    drop-cons parts i d within ∙ ap (λ (k : ℕ). get_or parts i d ∷ drop k parts) (sym (add-one i)) in
+    append_assoc out (piece (get_or parts i d)) (flat_map piece (drop (i + 1) parts))
     ∙ ap (λ ps. out ++ flat_map piece ps) (sym next) ∙ so_far
 
 -- all pieces
-pub pieces_all : (piece : Option Lists → List ℕ) (parts : List (Option Lists)) (old : List ℕ) (i : ℕ) (out : List ℕ) → length parts ≤ i →
+pub pieces_all : {A : Type 0} (piece : A → List ℕ) (parts : List A) (old : List ℕ) (i : ℕ) (out : List ℕ) → length parts ≤ i →
     out ++ flat_map piece (drop i parts) ≡ old ++ flat_map piece parts → out ≡ old ++ flat_map piece parts
 pieces_all piece parts old i out past so_far =
     let none : drop i parts ≡ [] = nil_from_length (drop i parts) (omega (arith, length-drop i parts)) in

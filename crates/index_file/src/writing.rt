@@ -1,23 +1,24 @@
 // Index files appended to bytes.
 ghost use Rattle.std.specs.Prelude.{◌≡◌, ◌++◌, ◌≤◌, List, ℕ, Some, length, take, drop, IfOk, OnOk, OnErr};
 ghost use Rattle.std.specs.List.{flat_map};
+ghost use Rattle.bucket_map.specs.ShapeData.{shape_data};
 ghost use Rattle.elias_fano.specs.Spelling.{number};
 ghost use Rattle.build_outcome.specs.Validity.{IsMark};
 ghost use Rattle.build_outcome.specs.Index.{KeyMarkData};
 ghost use Rattle.index_text.specs.Text.{head_text, digest_of, body_text, index_text, IsIndex};
 ghost use Rattle.index_file.specs.Encoded.{marked};
 ghost use Rattle.index_file.specs.Held.{held_data, IsHeld};
-ghost use Rattle.index_file.specs.Pieces.{count_text, own_text};
+ghost use Rattle.index_file.specs.Pieces.{count_text, own_text, marked_fields};
 
 use crate::held::Held;
 use crate::index::Index;
 use crate::lists::Lists;
-use bucket_map::Map;
+use bucket_map::{Map, Shape};
 use build_outcome::KeyMark;
 use elias_fano::put_numbers;
 use index_text::{HeadFields, MAGIC, MARKED};
 use murmur64::murmur64;
-use pilot_codecs::{Code, NoMemory};
+use pilot_codecs::{Code, Encoding, NoMemory};
 
 // The number of a code.
 fn number_of(code: Code) -> u8
@@ -51,26 +52,40 @@ fn map_number_of(map: Map) -> u8
     }
 }
 
+// The fields of the second version, by what they are of.
+pub(crate) fn marked_head(
+    seed: u64,
+    n: u64,
+    shape: Shape,
+    parts: u64,
+    enc: Encoding,
+) -> HeadFields
+    ensures { result ≡ marked_fields seed n (shape_data shape) parts enc }
+{
+    HeadFields {
+        version: MARKED,
+        front: number_of(enc.front),
+        back: back_number_of(enc.back),
+        spread: map_number_of(shape.map),
+        seed,
+        n,
+        alpha: u64::from(shape.alpha),
+        c: u64::from(shape.c),
+        parts,
+    }
+}
+
 // The fields of the second version.
 fn fields_of(held: &Held) -> HeadFields
     ensures { (mark : KeyMarkData) → result ≡ Rattle.index_text.specs.Text.fields_of
         (marked (held_data held.now) mark) held.now.enc }
 {
-    HeadFields {
-        version: MARKED,
-        front: number_of(held.enc.front),
-        back: back_number_of(held.enc.back),
-        spread: map_number_of(held.shape.map),
-        seed: held.seed,
-        n: held.n,
-        alpha: u64::from(held.shape.alpha),
-        c: u64::from(held.shape.c),
-        parts: held.parts.len() as u64,
-    }
+    let parts = held.parts.len() as u64;
+    marked_head(held.seed, held.n, held.shape, parts, held.enc)
 }
 
 // Appends the fields; on want of memory a part of them.
-fn put_head(out: &mut Vec<u8>, head: HeadFields) -> Result<(), NoMemory>
+pub(crate) fn put_head(out: &mut Vec<u8>, head: HeadFields) -> Result<(), NoMemory>
     ensures ok { OnOk result (out.new.items ≡ out.old.items ++ head_text head) }
     ensures kept { take (length out.old.items) out.new.items ≡ out.old.items }
 {
@@ -129,7 +144,7 @@ fn put_partitions(out: &mut Vec<u8>, parts: &[Option<Lists>]) -> Result<(), NoMe
 }
 
 // Appends the digest of the bytes from a place on.
-fn put_digest(out: &mut Vec<u8>, start: usize) -> Result<(), NoMemory>
+pub(crate) fn put_digest(out: &mut Vec<u8>, start: usize) -> Result<(), NoMemory>
     requires { start ≤ length out.old.items }
     ensures ok { OnOk result (out.new.items
         ≡ out.old.items ++ number (digest_of (drop start out.old.items))) }
