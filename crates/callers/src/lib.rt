@@ -3,6 +3,7 @@
 
 mod bits;
 mod buckets;
+mod built_indexes;
 mod chains;
 mod codes;
 mod divisors;
@@ -17,6 +18,7 @@ mod spills;
 
 pub use bits::set_bits;
 pub use buckets::first_size;
+pub use built_indexes::{built_number_read_again, index_of_keys, index_read_again};
 pub use chains::three_chains;
 pub use codes::dictionary;
 pub use divisors::remainders;
