@@ -1,8 +1,12 @@
 // An index that was built is written in an encoding behind what stands there, read again, and looked up.
-ghost use Rattle.std.specs.Prelude.{◌≡◌, ◌≤◌, Err, length, take, IfOk, IfSome, OnErr};
+ghost use Rattle.std.specs.Prelude.{◌≡◌, ◌≤◌, Some, Err, length, take, option_map, IfOk, IfSome, OnErr};
 ghost use Rattle.pthash.specs.declared.TheConstants.{MAX_KEYS};
+ghost use Rattle.settings.specs.Settings.{settings_data};
+ghost use Rattle.build_outcome.specs.Index.{IndexData};
 ghost use Rattle.build_outcome.specs.IndexLaws.{IsOneToOne};
+ghost use Rattle.build_outcome.specs.Outcome.{outcome_of, built};
 ghost use Rattle.build_outcome.specs.Values.{value_of};
+ghost use Rattle.hem_build.specs.Rules.{rules_of};
 ghost use Rattle.index_text.specs.declared.fault.IndexFault.TheVariants as faults;
 
 use hem_build::{Built, Refusal, Settings, build_keys};
@@ -56,6 +60,10 @@ pub fn index_of_keys<R: Threads + Sync>(
     requires few { length keys.now ≤ MAX_KEYS }
     ensures one_to_one { IfOk result (λ found. IfSome found (λ index.
         IsOneToOne index.index keys.now)) }
+    // Keys that are built are never refused.
+    ensures found { let rules = rules_of (settings_data settings.now) in (x : IndexData) →
+        outcome_of rules keys.now settings.now.seeds.items ≡ built x →
+        IfOk result (λ found. option_map (λ index. index.index) found ≡ Some x) }
     ensures err { OnErr result (result ≡ Err faults.NoMemory) }
 {
     match build_keys(rt, alloc, keys, settings) {
@@ -64,6 +72,7 @@ pub fn index_of_keys<R: Threads + Sync>(
             Ok(Some(index))
         }
         Err(Refusal::NoMemory) => Err(IndexFault::NoMemory),
-        Err(_) => Ok(None),
+        Err(Refusal::RepeatedKey { .. }) => Ok(None),
+        Err(Refusal::SeedsExhausted { .. }) => Ok(None),
     }
 }
