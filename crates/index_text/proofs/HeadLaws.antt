@@ -1,9 +1,9 @@
 -- What is read of the fields and of the digest is their text, and their text is read again.
-use Rattle.std.specs.Prelude.{◌≡◌, ℕ, ◌+◌, ◌-◌, ◌^◌, ◌<◌, ◌≤◌, true, false, cond, not, ◌&&◌, ◌==◌, nat_lt, nat_le, List, [], ◌∷◌, ◌++◌, length, take, drop}
+use Rattle.std.specs.Prelude.{◌≡◌, ℕ, ◌+◌, ◌-◌, ◌^◌, ◌<◌, ◌≤◌, false, cond, not, ◌&&◌, ◌==◌, nat_lt, List, [], ◌∷◌, ◌++◌, length, take, drop}
 use Rattle.std.specs.Prelude.{◌⊎◌, slice_index, bytes_eq, Option, Some, None, Result, Ok, Err}
 use Rattle.std.specs.List.{flat_map}
-use Rattle.std.proofs.Common.{get_or, refl, sym, ap, ◌∙◌, subst, append_assoc, inl, inr, arith, drop-cons}
-use Rattle.std.proofs.lemmas.Bool.{cases_lt, eqb-true, eqb-false, eq-eqb, ne_eqb, ltb-false, le-ltb, not-false, and_parts}
+use Rattle.std.proofs.Common.{refl, sym, ap, ◌∙◌, subst, inl, inr, arith, drop-cons}
+use Rattle.std.proofs.lemmas.Bool.{eqb-true, eq-eqb, ltb-false, le-ltb, not-false, and_parts}
 use Rattle.std.proofs.lemmas.List.{drop_at, take_at, take-take, drop-drop, length-append, length-take, length-drop, take-append-drop, get_or-take}
 use Rattle.std.proofs.lemmas.Slice.Eq.{bytes_eq-Decides}
 use Rattle.pthash.specs.declared.TheConstants.{MAX_KEYS, MAX_PARTITIONS, MIN_ALPHA, MAX_ALPHA, MIN_C, MAX_C}
@@ -21,7 +21,7 @@ use Rattle.index_text.specs.declared.fault.IndexFault.TheVariants as faults
 use Rattle.index_text.specs.declared.head.HeadFields.{HeadFields}
 use Rattle.index_text.specs.declared.head.TheConstants.{MAGIC, UNMARKED, MARKED, MIN_BYTES, MAX_BYTES, KEYS_AT, ALPHA_AT, BUCKETS_AT, PARTITIONS_AT}
 use Rattle.index_text.specs.Faults.{◌>>=◌}
-use Rattle.index_text.specs.Text.{code_number, back_number, map_number, version_of, head_text, digest_of, with_digest}
+use Rattle.index_text.specs.Text.{code_number, back_number, map_number, head_text, digest_of, with_digest}
 use Rattle.index_text.specs.Fields.{word_at, body_of, kept_digest, head_of, is_version, sealed_at, code_with, back_with, map_with, encoding_at, is_within, shape_at}
 use Rattle.index_text.proofs.Steps.{bind_ok, guard_ok, last_ok, either_ok, done, ok_is, is_within-ok, is_within-again}
 use Rattle.index_text.proofs.Words.{word_text, word_at-lt, word_again, word_rest}
@@ -142,7 +142,7 @@ unfolding head_of
 head_takes bytes fits some magic =
     let text : bytes ≡ MAGIC ++ drop 4 bytes = sym (take-append-drop 4 bytes) ∙ ap (λ (t : List ℕ). t ++ drop 4 bytes) magic in (
       text ∙ ap (λ (t : List ℕ). MAGIC ++ t) (bytes_text bytes (omega arith)
-      ∙ ap (λ (t : List ℕ). slice_index bytes 4 ∷ slice_index bytes 5 ∷ slice_index bytes 6 ∷ slice_index bytes 7 ∷ t) (numbers_text bytes fits some)),
+          ∙ ap (λ (t : List ℕ). slice_index bytes 4 ∷ slice_index bytes 5 ∷ slice_index bytes 6 ∷ slice_index bytes 7 ∷ t) (numbers_text bytes fits some)),
       record {
         seed = word_at-lt 8 bytes fits;
         n = word_at-lt 16 bytes fits;

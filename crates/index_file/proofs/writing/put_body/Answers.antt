@@ -1,4 +1,3 @@
-use Rattle.std.proofs.Common.{◌≡◌}
 use Rattle.build_outcome.specs.KeyMarkData.{key_mark_data}
 use Rattle.index_file.proofs.Written.{body_is}
 use Rattle.index_file.proofs.writing.put_body.Goals as goal

@@ -1,5 +1,5 @@
-use Rattle.std.proofs.Common.{◌≡◌, length}
-use Rattle.std.specs.Prelude.{drop, OnOk}
+use Rattle.std.proofs.Common.{length}
+use Rattle.std.specs.Prelude.{drop}
 use Rattle.build_outcome.specs.KeyMarkData.{key_mark_data, IsMark-key_mark_data}
 use Rattle.index_text.specs.Text.{IsIndex}
 use Rattle.index_file.specs.Encoded.{marked}
