@@ -98,7 +98,8 @@ value_of-none held key q d place within is =
     ∙ ap (λ (p : PartData). option_map (λ v. key_count (take q parts) + v) (part_value held.shape.map held.seed p a b)) part)
 
 -- a key whose partition has one has the value in it, behind the partitions before
-pub value_of-some : (held : Held) (key : List ℕ) (q : ℕ) (d : Option Lists) (lists : Lists) → IsHeld held → q ≡ place_of held key → q < length held.parts.items →
+pub value_of-some : (held : Held) (key : List ℕ) (q : ℕ) (d : Option Lists) (lists : Lists) → IsHeld held →
+    q ≡ place_of held key → q < length held.parts.items →
     get_or held.parts.items q d ≡ Some lists →
     Some (key_count (take q (parts_data held.parts.items))
     + position_value lists.n lists.free (pair_position lists.spread.map held.seed (lists_data lists) (first_hash key held.seed) (second_hash key held.seed)))

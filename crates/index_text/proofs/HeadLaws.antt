@@ -22,7 +22,8 @@ use Rattle.index_text.specs.declared.head.HeadFields.{HeadFields}
 use Rattle.index_text.specs.declared.head.TheConstants.{MAGIC, UNMARKED, MARKED, MIN_BYTES, MAX_BYTES, KEYS_AT, ALPHA_AT, BUCKETS_AT, PARTITIONS_AT}
 use Rattle.index_text.specs.Faults.{◌>>=◌}
 use Rattle.index_text.specs.Text.{code_number, back_number, map_number, head_text, digest_of, with_digest}
-use Rattle.index_text.specs.Fields.{word_at, body_of, kept_digest, head_of, is_version, sealed_at, code_with, back_with, map_with, encoding_at, is_within, shape_at}
+use Rattle.index_text.specs.Fields.{word_at, body_of, kept_digest, head_of, is_version, sealed_at}
+use Rattle.index_text.specs.Fields.{code_with, back_with, map_with, encoding_at, is_within, shape_at}
 use Rattle.index_text.proofs.Steps.{bind_ok, guard_ok, last_ok, either_ok, done, ok_is, is_within-ok, is_within-again}
 use Rattle.index_text.proofs.Words.{word_text, word_at-lt, word_again, word_rest}
 
@@ -237,7 +238,8 @@ back_again (Some codes.Dict) = ap (λ r. r >>= λ code. Ok (Some code)) (code_ag
 back_again (Some codes.EliasFano) = ap (λ r. r >>= λ code. Ok (Some code)) (code_again codes.EliasFano)
 
 -- the encoding that was read has these numbers
-pub encoding_takes : (head : HeadFields) (enc : Encoding) → encoding_at head ≡ Ok enc → (code_number enc.front ≡ head.front) × (back_number enc.back ≡ head.back)
+pub encoding_takes : (head : HeadFields) (enc : Encoding) → encoding_at head ≡ Ok enc →
+    (code_number enc.front ≡ head.front) × (back_number enc.back ≡ head.back)
 unfolding encoding_at
 encoding_takes head enc e =
     let a = bind_ok (code_with head.front) (λ front. back_with head.back >>= λ back. done {A = Encoding} (record { front = front; back = back })) enc e in

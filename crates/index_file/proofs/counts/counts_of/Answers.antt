@@ -2,7 +2,8 @@ use Rattle.std.proofs.Common.{◌≡◌, ℕ, List, length, Err, sym, ap, subst,
 use Rattle.std.specs.Prelude.{sum}
 use Rattle.elias_fano.specs.Values.{below_len}
 use Rattle.index_text.specs.declared.fault.IndexFault.TheVariants as faults
-use Rattle.index_file.proofs.Counting.{AreWords-length, AreWords-within, AreWords-small, words_read, counts_at-short, counts_at-field, counts_at-sum, counts_at-ok}
+use Rattle.index_file.proofs.Counting.{AreWords-length, AreWords-within, AreWords-small, words_read}
+use Rattle.index_file.proofs.Counting.{counts_at-short, counts_at-field, counts_at-sum, counts_at-ok}
 use Rattle.index_file.proofs.counts.counts_of.Goals as goal
 
 pub returns-then-few-parts-clause-value : goal.returns-then-few-parts-clause-value
