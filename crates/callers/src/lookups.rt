@@ -11,11 +11,11 @@ use std::alloc::Global;
 
 /// The number of a key in the index that these bytes are.
 pub fn number_of_key(alloc: Global, bytes: &[u8], key: &[u8]) -> Result<Option<u64>, IndexFault>
-    ensures value { (x : IndexData) (enc : Encoding) → IsIndex bytes.now x enc
-        → IfOk result (λ number. number ≡ value_of x key.now) }
+    ensures value { (x : IndexData) (enc : Encoding) → IsIndex bytes.now x enc →
+        IfOk result (λ number. number ≡ value_of x key.now) }
     // The file of an index has no fault.
-    ensures err { (x : IndexData) (enc : Encoding) → IsIndex bytes.now x enc
-        → OnErr result (result ≡ Err faults.NoMemory) }
+    ensures err { (x : IndexData) (enc : Encoding) → IsIndex bytes.now x enc →
+        OnErr result (result ≡ Err faults.NoMemory) }
 {
     let index = read_index(alloc, bytes)?;
     Ok(index.lookup(key))

@@ -1,17 +1,16 @@
 -- The value of a key from what an index keeps.
-use Rattle.std.specs.Prelude.{◌≡◌, ◌≢◌, ℕ, zero, suc, ◌+◌, ◌-◌, ◌*◌, ◌<◌, ◌≤◌, ◌==◌, ◌↔◌, Bool, true, false, cond, List, [], ◌∷◌, ◌++◌, length, map, take, drop, slice_index_or}
-use Rattle.std.specs.Prelude.{Option, Some, None, option_map, IfSome, All, sum_by}
+use Rattle.std.specs.Prelude.{◌≡◌, ℕ, zero, suc, ◌+◌, ◌*◌, ◌<◌, ◌≤◌, ◌==◌, ◌↔◌, Bool, true, false, cond, List, [], ◌∷◌, length, take, drop}
+use Rattle.std.specs.Prelude.{Option, Some, None, option_map, sum_by}
 use Rattle.std.proofs.Common.{get_or, refl, sym, ap, ◌∙◌, subst, append_assoc, drop-cons, add-one, arith}
 use Rattle.std.proofs.Math.Nat.{mod-lt}
-use Rattle.std.proofs.lemmas.Bool.{eq-eqb, ne_eqb, eqb-true, eqb-false}
+use Rattle.std.proofs.lemmas.Bool.{ne_eqb, eqb-true, eqb-false}
 use Rattle.std.proofs.lemmas.List.{length-map, get_or-map}
 use Rattle.std.proofs.lemmas.List.Sums.{sum_by-cons}
 use Rattle.pthash.specs.declared.Map.{Map}
 use Rattle.pthash.specs.Hash.{first_hash, second_hash}
 use Rattle.pthash.specs.Sizes.{partition_of}
-use Rattle.pthash.specs.Shapes.{ShapeData}
 use Rattle.build_outcome.specs.Index.{PartData, IndexData}
-use Rattle.build_outcome.specs.Values.{part_size, position_value, pair_position, part_value, part_at, key_count, pair_value, value_of}
+use Rattle.build_outcome.specs.Values.{part_size, position_value, pair_position, part_value, part_at, key_count, value_of}
 use Rattle.build_outcome.specs.ValidValueLaws.{position_value-lt, key_count-take}
 use Rattle.build_outcome.specs.Validity.{IsValidPart, IsValidIndex}
 use Rattle.index_text.specs.Text.{key_counts}
@@ -99,7 +98,8 @@ value_of-none held key q d place within is =
     ∙ ap (λ (p : PartData). option_map (λ v. key_count (take q parts) + v) (part_value held.shape.map held.seed p a b)) part)
 
 -- a key whose partition has one has the value in it, behind the partitions before
-pub value_of-some : (held : Held) (key : List ℕ) (q : ℕ) (d : Option Lists) (lists : Lists) → IsHeld held → q ≡ place_of held key → q < length held.parts.items →
+pub value_of-some : (held : Held) (key : List ℕ) (q : ℕ) (d : Option Lists) (lists : Lists) → IsHeld held →
+    q ≡ place_of held key → q < length held.parts.items →
     get_or held.parts.items q d ≡ Some lists →
     Some (key_count (take q (parts_data held.parts.items))
     + position_value lists.n lists.free (pair_position lists.spread.map held.seed (lists_data lists) (first_hash key held.seed) (second_hash key held.seed)))

@@ -1,5 +1,5 @@
 -- The partitions that were read and those that come.
-use Rattle.std.specs.Prelude.{◌≡◌, ℕ, ◌+◌, ◌<◌, ◌≤◌, List, [], ◌∷◌, ◌++◌, length, drop, map, All, Option, Some, None, Result, Ok, Err}
+use Rattle.std.specs.Prelude.{◌≡◌, ℕ, ◌+◌, ◌<◌, ◌≤◌, List, [], ◌∷◌, ◌++◌, length, drop, All, Option, Result, Ok, Err}
 use Rattle.std.proofs.Common.{get_or, refl, sym, ap, ◌∙◌, subst, append_assoc, append-nil, drop-cons, add-one, arith}
 use Rattle.std.proofs.lemmas.List.{nil_from_length, length-drop, map-append}
 use Rattle.std.proofs.lemmas.List.Elements.{All-nil, All-push}
@@ -26,7 +26,8 @@ before_more parts part (Ok more) = ap (λ (ps : List PartData). Ok (ps, more.1))
 before_more parts part (Err e) = refl
 
 -- the first i partitions were read up to a place
-pub record ArePartitions (bytes : List ℕ) (enc : Encoding) (shape : ShapeData) (counts : List ℕ) (at i : ℕ) (parts : List (Option Lists)) (place : ℕ) : Type 0 where
+pub record ArePartitions (bytes : List ℕ) (enc : Encoding) (shape : ShapeData) (counts : List ℕ) (at i : ℕ) (parts : List (Option Lists))
+    (place : ℕ) : Type 0 where
   pub read : partitions_at (length bytes) enc shape 0 counts (drop at bytes)
       ≡ before (parts_data parts) (partitions_at (length bytes) enc shape i (drop i counts) (drop place bytes))
   pub within : place ≤ length bytes

@@ -1,11 +1,11 @@
 -- A bucket by divisors is the bucket of a map.
 use Rattle.std.specs.Prelude.{◌≡◌, ℕ, ◌+◌, ◌-◌, ◌%◌, ◌<◌, ◌≤◌, max, true, false, cond, ◌==◌, Bool}
-use Rattle.std.proofs.Common.{refl, sym, ap, ◌∙◌, subst, zero-add, inl, inr, arith}
+use Rattle.std.proofs.Common.{refl, ap, ◌∙◌, zero-add, inl, inr, arith}
 use Rattle.std.proofs.lemmas.Bool.{cases_lt, eqb-true, eqb-false}
 use Rattle.pthash.specs.declared.TheConstants.{FRONT_HASHES}
 use Rattle.pthash.specs.declared.Map.{Map}
 use Rattle.pthash.specs.declared.Map.TheVariants.{Skewed, Uniform}
-use Rattle.pthash.specs.Sizes.{front_count_of, bucket_of}
+use Rattle.pthash.specs.Sizes.{bucket_of}
 use Rattle.pthash.specs.SizeLaws.{skewed_bucket_of-front, skewed_bucket_of-back}
 use Rattle.index_file.specs.Spread.{fronts_of, limit_of}
 

@@ -1,6 +1,6 @@
 -- From what was read to an index.
-use Rattle.std.specs.Prelude.{◌≡◌, ℕ, ◌+◌, ◌-◌, ◌^◌, ◌<◌, ◌≤◌, List, length, drop, Result, Ok, Err}
-use Rattle.std.proofs.Common.{refl, sym, ap, ◌∙◌, subst, arith}
+use Rattle.std.specs.Prelude.{◌≡◌, ℕ, ◌^◌, ◌≤◌, List, length, drop, Ok}
+use Rattle.std.proofs.Common.{sym, ap, ◌∙◌, subst, arith}
 use Rattle.std.proofs.lemmas.List.{length-append}
 use Rattle.pthash.specs.Shapes.{ShapeData, IsShape}
 use Rattle.elias_fano.specs.Spelling.{number}
@@ -13,11 +13,10 @@ use Rattle.index_text.specs.Faults.{Fails}
 use Rattle.index_text.specs.Fields.{sealed_at}
 use Rattle.index_text.specs.Lists.{partitions_at}
 use Rattle.index_text.specs.Reading.{index_at}
-use Rattle.index_text.specs.Text.{key_counts, digest_of, index_text, IsIndex}
+use Rattle.index_text.specs.Text.{key_counts, digest_of, IsIndex}
 use Rattle.index_text.proofs.CallerLemmas.{done, all_counted, partitions_take, sealed_takes, index_takes, index_only}
 use Rattle.index_file.specs.declared.held.Held.{Held}
 use Rattle.index_file.specs.Held.{held_data, IsHeld, IsKept}
-use Rattle.index_file.proofs.Faults.{Fails-then}
 
 -- the partitions that were read have the numbers of keys that were read
 pub counts_are : (bytes : List ℕ) (enc : Encoding) (shape : ShapeData) (counts given : List ℕ) (parts : List PartData) (at next : ℕ) → IsBytes bytes →

@@ -1,9 +1,9 @@
 -- An index with its encoding.
-use Rattle.std.specs.Prelude.{ℕ, ◌≡◌, List, length, Some}
+use Rattle.std.specs.Prelude.{ℕ, List, length, Some}
 use Rattle.pilot_codecs.specs.declared.code.Encoding.{Encoding}
 use Rattle.pthash.specs.Hash.{first_hash, second_hash}
 use Rattle.pthash.specs.Sizes.{partition_of}
-use Rattle.build_outcome.specs.Index.{PartData, KeyMarkData, IndexData}
+use Rattle.build_outcome.specs.Index.{KeyMarkData, IndexData}
 use Rattle.build_outcome.specs.Values.{part_at}
 
 -- an index and the encoding of its pilots

@@ -4,8 +4,8 @@ use bucket_map::Shape;
 use build_outcome::KeyMark;
 use pilot_codecs::Encoding;
 
-// What an index keeps of its bytes: the lists of each partition that has a key, and how many keys the
-// partitions before each have.
+// What an index keeps of its bytes: the lists of each partition that has a key, and how many keys
+// the partitions before each have.
 #[derive(Drop)]
 pub(crate) struct Held {
     pub(crate) seed: u64,

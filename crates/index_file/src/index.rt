@@ -133,8 +133,8 @@ impl Index {
         put_file(out, &self.held, mark)
     }
 
-    /// The number of a key: for each key of the list that the index was built of one of its own; for a
-    /// stranger any, or none. Takes no memory.
+    /// The number of a key: for each key of the list that the index was built of one of its own;
+    /// for a stranger any, or none. Takes no memory.
     pub fn lookup(&self, key: &[u8]) -> Option<u64>
         ensures value { result ≡ value_of self.now.index key.now }
         ensures none { (result ≡ None) ↔ (keys_beside self.now.index key.now ≡ 0) }

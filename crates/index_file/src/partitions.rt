@@ -45,7 +45,8 @@ fn pilots_of(
     Ok((pilots, next))
 }
 
-// The free list of the partition with a number, of n keys and so many positions, and the place after it.
+// The free list of the partition with a number, of n keys and so many positions, and the place after
+// it.
 fn free_of(
     alloc: Global,
     bytes: &[u8],

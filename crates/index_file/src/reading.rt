@@ -54,14 +54,14 @@ fn read_held(alloc: Global, bytes: &[u8]) -> Result<Held, IndexFault>
     held_of(alloc, head_fields(body), body)
 }
 
-/// The index that these bytes are, of either version, or their first fault. Nothing grows before it is
-/// known that the bytes are long enough for it.
+/// The index that these bytes are, of either version, or their first fault. Nothing grows before it
+/// is known that the bytes are long enough for it.
 pub fn read_index(alloc: Global, bytes: &[u8]) -> Result<Index, IndexFault>
     // What is read is the index whose file these bytes are.
     ensures found { IfOk result (λ index. IsIndex bytes.now index.index index.enc) }
     // The file of an index is read, unless memory runs out.
-    ensures only { (x : IndexData) (enc : Encoding) → IsIndex bytes.now x enc
-        → Gives {Y = IndexData × Encoding} (λ index. (index.index, index.enc)) result (Ok (x, enc)) }
+    ensures only { (x : IndexData) (enc : Encoding) → IsIndex bytes.now x enc →
+        Gives {Y = IndexData × Encoding} (λ index. (index.index, index.enc)) result (Ok (x, enc)) }
     // Which fault it is: the first one.
     ensures exact { Gives (λ index. (index.index, index.enc)) result (index_at bytes.now) }
 {

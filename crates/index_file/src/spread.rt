@@ -8,8 +8,8 @@ use bucket_map::{Map, front_count};
 use divisor::Divisor;
 use pthash::FRONT_HASHES;
 
-// How first hashes are spread over so many buckets: those below a limit go to the front buckets, the
-// others to the rest.
+// How first hashes are spread over so many buckets: those below a limit go to the front buckets,
+// the others to the rest.
 #[derive(Drop)]
 pub(crate) struct Spread {
     pub(crate) map: Map,

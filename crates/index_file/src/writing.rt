@@ -184,8 +184,8 @@ pub(crate) fn put_file(out: &mut Vec<u8>, held: &Held, mark: KeyMark) -> Result<
     Ok(())
 }
 
-/// Appends the file of an index with a mark, of the second version, in the encoding of the index; on
-/// want of memory nothing.
+/// Appends the file of an index with a mark, of the second version, in the encoding of the index;
+/// on want of memory nothing.
 pub fn write_marked(index: &Index, mark: KeyMark, out: &mut Vec<u8>) -> Result<(), NoMemory>
     ensures ok { OnOk result (out.new.items ≡ out.old.items
         ++ index_text (marked index.now.index mark) index.now.enc) }

@@ -1,8 +1,8 @@
 -- What is read of a mark and of the numbers of keys is their text, and their text is read again.
-use Rattle.std.specs.Prelude.{◌≡◌, ℕ, ◌+◌, ◌-◌, ◌*◌, ◌^◌, ◌<◌, ◌≤◌, cond, not, ◌==◌, nat_lt, List, [], ◌∷◌, ◌++◌, length, take, drop, sum, All}
+use Rattle.std.specs.Prelude.{◌≡◌, ℕ, ◌+◌, ◌-◌, ◌*◌, ◌^◌, ◌<◌, ◌≤◌, cond, not, ◌==◌, nat_lt, List, ◌++◌, length, drop, sum, All}
 use Rattle.std.specs.Prelude.{Option, Some, None, IfSome, Result, Ok, Err}
 use Rattle.std.specs.List.{flat_map}
-use Rattle.std.proofs.Common.{get_or, refl, sym, ap, ◌∙◌, subst, append_assoc, inl, inr, arith}
+use Rattle.std.proofs.Common.{get_or, refl, sym, ap, ◌∙◌, subst, inl, inr, arith}
 use Rattle.std.proofs.lemmas.Bool.{cases_lt, eqb-true, eqb-false, eq-eqb, ne_eqb, ltb-false, le-ltb, not-false}
 use Rattle.std.proofs.lemmas.List.{get_or_past, drop_at, length-append}
 use Rattle.pthash.specs.declared.TheConstants.{MAX_KEYS}
@@ -17,7 +17,7 @@ use Rattle.index_text.specs.declared.head.TheConstants.{UNMARKED, MARKED, MARK_L
 use Rattle.index_text.specs.Faults.{◌>>=◌, all_below}
 use Rattle.index_text.specs.Text.{version_of, mark_numbers}
 use Rattle.index_text.specs.Fields.{word_at, mark_at, add_up, counts_at}
-use Rattle.index_text.proofs.Steps.{guard_ok, bind_ok, either_ok, last_ok, done, ok_is, all_below-ok, all_below-again}
+use Rattle.index_text.proofs.Steps.{guard_ok, bind_ok, either_ok, last_ok, ok_is, all_below-ok, all_below-again}
 use Rattle.index_text.proofs.Words.{word_text, word_at-lt, word_again, word_rest}
 
 -- ---- the mark

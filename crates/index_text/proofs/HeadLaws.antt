@@ -1,9 +1,9 @@
 -- What is read of the fields and of the digest is their text, and their text is read again.
-use Rattle.std.specs.Prelude.{◌≡◌, ℕ, ◌+◌, ◌-◌, ◌^◌, ◌<◌, ◌≤◌, true, false, cond, not, ◌&&◌, ◌==◌, nat_lt, nat_le, List, [], ◌∷◌, ◌++◌, length, take, drop}
+use Rattle.std.specs.Prelude.{◌≡◌, ℕ, ◌+◌, ◌-◌, ◌^◌, ◌<◌, ◌≤◌, false, cond, not, ◌&&◌, ◌==◌, nat_lt, List, [], ◌∷◌, ◌++◌, length, take, drop}
 use Rattle.std.specs.Prelude.{◌⊎◌, slice_index, bytes_eq, Option, Some, None, Result, Ok, Err}
 use Rattle.std.specs.List.{flat_map}
-use Rattle.std.proofs.Common.{get_or, refl, sym, ap, ◌∙◌, subst, append_assoc, inl, inr, arith, drop-cons}
-use Rattle.std.proofs.lemmas.Bool.{cases_lt, eqb-true, eqb-false, eq-eqb, ne_eqb, ltb-false, le-ltb, not-false, and_parts}
+use Rattle.std.proofs.Common.{refl, sym, ap, ◌∙◌, subst, inl, inr, arith, drop-cons}
+use Rattle.std.proofs.lemmas.Bool.{eqb-true, eq-eqb, ltb-false, le-ltb, not-false, and_parts}
 use Rattle.std.proofs.lemmas.List.{drop_at, take_at, take-take, drop-drop, length-append, length-take, length-drop, take-append-drop, get_or-take}
 use Rattle.std.proofs.lemmas.Slice.Eq.{bytes_eq-Decides}
 use Rattle.pthash.specs.declared.TheConstants.{MAX_KEYS, MAX_PARTITIONS, MIN_ALPHA, MAX_ALPHA, MIN_C, MAX_C}
@@ -21,8 +21,9 @@ use Rattle.index_text.specs.declared.fault.IndexFault.TheVariants as faults
 use Rattle.index_text.specs.declared.head.HeadFields.{HeadFields}
 use Rattle.index_text.specs.declared.head.TheConstants.{MAGIC, UNMARKED, MARKED, MIN_BYTES, MAX_BYTES, KEYS_AT, ALPHA_AT, BUCKETS_AT, PARTITIONS_AT}
 use Rattle.index_text.specs.Faults.{◌>>=◌}
-use Rattle.index_text.specs.Text.{code_number, back_number, map_number, version_of, head_text, digest_of, with_digest}
-use Rattle.index_text.specs.Fields.{word_at, body_of, kept_digest, head_of, is_version, sealed_at, code_with, back_with, map_with, encoding_at, is_within, shape_at}
+use Rattle.index_text.specs.Text.{code_number, back_number, map_number, head_text, digest_of, with_digest}
+use Rattle.index_text.specs.Fields.{word_at, body_of, kept_digest, head_of, is_version, sealed_at}
+use Rattle.index_text.specs.Fields.{code_with, back_with, map_with, encoding_at, is_within, shape_at}
 use Rattle.index_text.proofs.Steps.{bind_ok, guard_ok, last_ok, either_ok, done, ok_is, is_within-ok, is_within-again}
 use Rattle.index_text.proofs.Words.{word_text, word_at-lt, word_again, word_rest}
 
@@ -237,7 +238,8 @@ back_again (Some codes.Dict) = ap (λ r. r >>= λ code. Ok (Some code)) (code_ag
 back_again (Some codes.EliasFano) = ap (λ r. r >>= λ code. Ok (Some code)) (code_again codes.EliasFano)
 
 -- the encoding that was read has these numbers
-pub encoding_takes : (head : HeadFields) (enc : Encoding) → encoding_at head ≡ Ok enc → (code_number enc.front ≡ head.front) × (back_number enc.back ≡ head.back)
+pub encoding_takes : (head : HeadFields) (enc : Encoding) → encoding_at head ≡ Ok enc →
+    (code_number enc.front ≡ head.front) × (back_number enc.back ≡ head.back)
 unfolding encoding_at
 encoding_takes head enc e =
     let a = bind_ok (code_with head.front) (λ front. back_with head.back >>= λ back. done {A = Encoding} (record { front = front; back = back })) enc e in

@@ -1,16 +1,16 @@
 -- What is read is the text of a valid index, and the text of a valid index is read again.
-use Rattle.std.specs.Prelude.{◌≡◌, ℕ, ◌+◌, ◌-◌, ◌*◌, ◌^◌, ◌<◌, ◌≤◌, ◌⊎◌, List, [], ◌∷◌, ◌++◌, length, take, drop, sum, sum_by, map, slice_index, All, Option, Some, None}
-use Rattle.std.specs.Prelude.{Result, Ok, Err, ◌==◌, IfSome}
+use Rattle.std.specs.Prelude.{◌≡◌, ℕ, ◌+◌, ◌-◌, ◌<◌, ◌≤◌, ◌⊎◌, List, [], ◌∷◌, ◌++◌, length, drop, sum, slice_index, All, Option, Some, None}
+use Rattle.std.specs.Prelude.{Result, Ok, ◌==◌}
 use Rattle.std.specs.List.{flat_map}
 use Rattle.std.proofs.Common.{refl, sym, ap, ◌∙◌, subst, append_assoc, inl, inr, arith}
-use Rattle.std.proofs.lemmas.Bool.{eqb-true, cases_eq}
-use Rattle.std.proofs.lemmas.List.{nil_from_length, length-append, drop_at}
+use Rattle.std.proofs.lemmas.Bool.{eqb-true}
+use Rattle.std.proofs.lemmas.List.{nil_from_length}
 use Rattle.std.proofs.lemmas.List.Sums.{sum_by-cons}
 use Rattle.std.proofs.lemmas.List.Elements.{All-nil, All-cons, All-head, All-tail}
 use Rattle.pthash.specs.declared.TheConstants.{MAX_KEYS}
 use Rattle.pthash.specs.declared.Map.{Map}
-use Rattle.pthash.specs.declared.Map.TheVariants.{Skewed, Uniform}
-use Rattle.pthash.specs.Shapes.{ShapeData, IsShape}
+use Rattle.pthash.specs.declared.Map.TheVariants.{Skewed}
+use Rattle.pthash.specs.Shapes.{ShapeData}
 use Rattle.elias_fano.specs.Spelling.{number}
 use Rattle.elias_fano.proofs.CallerLemmas.{IsBytes, Takes}
 use Rattle.pilot_codecs.specs.declared.code.Encoding.{Encoding}
@@ -20,18 +20,18 @@ use Rattle.build_outcome.specs.Validity.{IsValidPart, IsValidIndex}
 use Rattle.index_text.specs.declared.fault.IndexFault.{IndexFault}
 use Rattle.index_text.specs.declared.fault.IndexFault.TheVariants as faults
 use Rattle.index_text.specs.declared.head.HeadFields.{HeadFields}
-use Rattle.index_text.specs.declared.head.TheConstants.{MAGIC, UNMARKED, MARKED, MAX_BYTES}
+use Rattle.index_text.specs.declared.head.TheConstants.{UNMARKED, MARKED}
 use Rattle.index_text.specs.Faults.{◌>>=◌}
 use Rattle.index_text.specs.Text.{version_of, fields_of, head_text, mark_numbers, key_counts, parts_text, body_text, with_digest, index_text, IsIndex}
 use Rattle.index_text.specs.Fields.{head_of, sealed_at, map_with, encoding_at, shape_at, mark_at, counts_at}
 use Rattle.index_text.specs.Lists.{partitions_at}
 use Rattle.index_text.specs.Reading.{ended, headed_at, index_at}
-use Rattle.index_text.proofs.Steps.{bind_ok, last_ok, done, ok_is}
+use Rattle.index_text.proofs.Steps.{bind_ok, last_ok, ok_is}
 use Rattle.index_text.proofs.ListLaws.{PartsTaken, partitions_take, partitions_again}
-use Rattle.index_text.proofs.HeadLaws.{IsSealed, sealed_takes, sealed_again, AreFields, head_takes, head_again, encoding_takes, encoding_again}
+use Rattle.index_text.proofs.HeadLaws.{sealed_takes, sealed_again, AreFields, head_takes, head_again, encoding_takes, encoding_again}
 use Rattle.index_text.proofs.HeadLaws.{map_takes, map_again, IsInRange, shape_takes, shape_again}
 use Rattle.index_text.proofs.CountLaws.{MarkTaken, mark_takes, mark_again, CountsTaken, counts_take, counts_again}
-use Rattle.index_text.proofs.LengthLaws.{length-key_counts, length-head_text, index_text-few, body_text-some}
+use Rattle.index_text.proofs.LengthLaws.{length-key_counts, index_text-few, body_text-some}
 
 -- the sum of the numbers of keys
 sum-key_counts : (parts : List PartData) → sum (key_counts parts) ≡ key_count parts
@@ -97,6 +97,10 @@ headed_is head bytes enc spread shape mark after counts lists parts fit enc_is m
       text = m.taken.parts ∙ ap (λ (t : List ℕ). flat_map number (mark_numbers mark) ++ t) counts_text;
     }
 
+-- what holds of one thing holds of the same
+along : {A : Type 0} (P : A → Type 0) (x y : A) → x ≡ y → P x → P y
+along P x y same holds = subst P same holds
+
 -- what is read behind the fields is the text of a valid index
 headed_takes : (total : ℕ) (head : HeadFields) (bytes : List ℕ) (x : IndexData) (enc : Encoding) → IsBytes bytes → AreFields head →
     UNMARKED ≤ head.version → head.version ≤ MARKED → headed_at total head bytes ≡ Ok (x, enc) → IsHeaded head bytes x enc
@@ -127,7 +131,8 @@ headed_takes total head bytes x enc fits fit low high e =
     let p = partitions_take total a.0 c.0 0 g.0.0 g.0.1 h.0.0 h.0.1 range.shape_ranges n.taken.rest_fits n.few h.1 in
     let Q : List ℕ → Type 0 = λ r. PartsTaken a.0 c.0 g.0.0 g.0.1 h.0.0 r in
     let P : IndexData × Encoding → Type 0 = λ q. IsHeaded head bytes q.0 q.1 in
-    subst P k.1 (headed_is head bytes a.0 b.0 c.0 d.0.0 d.0.1 g.0.0 g.0.1 h.0.0 fit a.1 b.1 range m n (subst Q none p))
+    along P (made a.0 c.0 h.0.0 d.0.0, a.0) y k.1
+    (headed_is head bytes a.0 b.0 c.0 d.0.0 d.0.1 g.0.0 g.0.1 h.0.0 fit a.1 b.1 range m n (along Q h.0.1 [] none p))
 
 -- the version stands at place 4
 version_at : (body : List ℕ) → (head_of body).version ≡ slice_index body 4

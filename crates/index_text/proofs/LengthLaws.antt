@@ -1,15 +1,15 @@
 -- How long the text of an index is.
-use Rattle.std.specs.Prelude.{◌≡◌, ℕ, ◌+◌, ◌-◌, ◌*◌, ◌/◌, ◌%◌, ◌^◌, ◌<◌, ◌≤◌, true, false, cond, max, List, [], ◌∷◌, ◌++◌, length, All, Option, Some, None}
+use Rattle.std.specs.Prelude.{◌≡◌, ℕ, ◌+◌, ◌*◌, ◌<◌, ◌≤◌, true, false, cond, max, List, [], ◌∷◌, ◌++◌, length, All, Option, Some, None}
 use Rattle.std.specs.List.{flat_map}
 use Rattle.std.specs.Int.{div_ceil, is_power_of_two}
-use Rattle.std.proofs.Common.{refl, sym, ap, ◌∙◌, inl, inr, arith}
+use Rattle.std.proofs.Common.{refl, ap, inl, inr, arith}
 use Rattle.std.proofs.Math.Nat.{mul-le-mul_right, mul-le-mul_left}
 use Rattle.std.proofs.lemmas.Bool.{cases_lt}
 use Rattle.std.proofs.lemmas.Grind.{div_ceil_times}
 use Rattle.std.proofs.lemmas.List.{length-append}
 use Rattle.std.proofs.lemmas.List.Elements.{All-head, All-tail}
 use Rattle.std.proofs.lemmas.List.Sums.{sum_by-cons}
-use Rattle.pthash.specs.declared.TheConstants.{MAX_KEYS, MAX_PARTITIONS, MAX_BUCKETS, MIN_ALPHA, MAX_C}
+use Rattle.pthash.specs.declared.TheConstants.{MIN_ALPHA, MAX_C}
 use Rattle.pthash.specs.Shapes.{ShapeData, IsShape}
 use Rattle.pthash.specs.Sizes.{floor_log2, table_size_of, bucket_count_of}
 use Rattle.pthash.specs.SizeLaws.{bucket_count_of-le}
@@ -19,11 +19,11 @@ use Rattle.pilot_codecs.specs.declared.code.Encoding.{Encoding}
 use Rattle.pilot_codecs.specs.Spelling.{pair_text}
 use Rattle.pilot_codecs.proofs.CallerLemmas.{length-split_text}
 use Rattle.build_outcome.specs.Index.{PartData, KeyMarkData, IndexData}
-use Rattle.build_outcome.specs.Values.{part_size, key_count}
+use Rattle.build_outcome.specs.Values.{key_count}
 use Rattle.build_outcome.specs.Validity.{IsValidPart, IsValidIndex}
 use Rattle.index_text.specs.declared.head.TheConstants.{MAX_BYTES}
 use Rattle.index_text.specs.Text.{fields_of, head_text, mark_numbers, key_counts, part_text, parts_text, body_text, digest_of, index_text}
-use Rattle.index_text.proofs.ListLaws.{FitSplit-pilots, IsRising-free, IsValidPart-none, no_part, part_text-some}
+use Rattle.index_text.proofs.ListLaws.{FitSplit-pilots, IsRising-free, IsValidPart-none, part_text-some}
 
 -- a quotient rounded up is at most a factor more than one, if the number is at most that factor of the divisor
 div_ceil-le : (x y k : ℕ) → 0 < y → x ≤ k * y → div_ceil x y ≤ k + 1

@@ -1,8 +1,8 @@
 -- What is read of the partitions is their text, and their text is read again.
-use Rattle.std.specs.Prelude.{◌≡◌, ℕ, ◌+◌, ◌-◌, ◌^◌, ◌<◌, ◌≤◌, true, false, cond, ◌==◌, List, [], ◌∷◌, ◌++◌, length, All, Result, Ok}
+use Rattle.std.specs.Prelude.{◌≡◌, ℕ, ◌+◌, ◌-◌, ◌^◌, ◌<◌, ◌≤◌, cond, ◌==◌, List, [], ◌∷◌, ◌++◌, length, All, Result, Ok}
 use Rattle.std.specs.List.Sorted.{IsNonDecreasing}
 use Rattle.std.proofs.Common.{get_or, refl, sym, ap, ◌∙◌, subst, append_assoc, inl, inr, arith}
-use Rattle.std.proofs.lemmas.Bool.{cases_lt, cases_eq, eqb-true, eqb-false, eq-eqb, ne_eqb}
+use Rattle.std.proofs.lemmas.Bool.{cases_lt, eqb-true, eqb-false, eq-eqb, ne_eqb}
 use Rattle.std.proofs.lemmas.List.{get_or_past, nil_from_length}
 use Rattle.std.proofs.lemmas.List.Elements.{All-nil, All-cons, All-head, All-tail}
 use Rattle.pthash.specs.declared.TheConstants.{MAX_KEYS, MAX_PILOTS, MAX_POSITIONS, MAX_BUCKETS}
@@ -14,18 +14,17 @@ use Rattle.elias_fano.specs.Spelling.{ef_text, IsRising}
 use Rattle.elias_fano.specs.Reading.{list_at}
 use Rattle.elias_fano.proofs.CallerLemmas.{IsBytes, Takes, Takes-then, list_takes, list_again}
 use Rattle.pilot_codecs.specs.declared.code.Encoding.{Encoding}
-use Rattle.pilot_codecs.specs.Spelling.{pair_text, greatest}
+use Rattle.pilot_codecs.specs.Spelling.{pair_text}
 use Rattle.pilot_codecs.specs.Encoded.{FitSplit, pair_at}
 use Rattle.pilot_codecs.proofs.CallerLemmas.{all_small, split_small, split_takes, split_again}
 use Rattle.build_outcome.specs.Index.{PartData}
 use Rattle.build_outcome.specs.Values.{part_size}
 use Rattle.build_outcome.specs.Validity.{IsValidPart}
-use Rattle.index_text.specs.declared.fault.IndexFault.{IndexFault}
 use Rattle.index_text.specs.declared.fault.IndexFault.TheVariants as faults
 use Rattle.index_text.specs.Faults.{◌>>=◌, formed, all_below}
 use Rattle.index_text.specs.Text.{key_counts, part_text, parts_text}
 use Rattle.index_text.specs.Lists.{pilots_at, free_at, partition_at, partitions_at}
-use Rattle.index_text.proofs.Steps.{bind_ok, either_ok, done, ok_is, formed_ok, AreBelow, all_below-ok, all_below-again}
+use Rattle.index_text.proofs.Steps.{bind_ok, either_ok, done, ok_is, formed_ok, all_below-ok, all_below-again}
 use Rattle.index_text.proofs.Words.{rest_fits}
 use Rattle.index_text.proofs.Rising.{rises-IsNonDecreasing, IsRising-below}
 

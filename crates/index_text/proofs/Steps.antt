@@ -1,6 +1,6 @@
 -- What a reading that found no fault says of its steps.
-use Rattle.std.specs.Prelude.{◌≡◌, ℕ, ◌<◌, ◌≤◌, ◌⊎◌, Bool, true, false, cond, not, ◌&&◌, nat_lt, nat_le, List, length, All, Result, Ok, Err}
-use Rattle.std.proofs.Common.{refl, sym, ap, ◌∙◌, subst, inl, inr, arith}
+use Rattle.std.specs.Prelude.{◌≡◌, ℕ, ◌<◌, ◌≤◌, ◌⊎◌, Bool, true, false, cond, not, nat_lt, nat_le, List, length, All, Result, Ok, Err}
+use Rattle.std.proofs.Common.{refl, ap, subst, inl, inr, arith}
 use Rattle.std.proofs.lemmas.Bool.{ltb-false, le-ltb, leb-true, le-leb, and_parts, and_from, not-false}
 use Rattle.std.proofs.lemmas.List.Elements.{All-from_get_or}
 use Rattle.elias_fano.specs.declared.fault.FormFault.{FormFault}

@@ -1,8 +1,8 @@
 -- Numbers at places in bytes.
-use Rattle.std.specs.Prelude.{◌≡◌, ℕ, ◌+◌, ◌^◌, ◌<◌, ◌≤◌, List, [], ◌∷◌, ◌++◌, length, take, drop}
+use Rattle.std.specs.Prelude.{◌≡◌, ℕ, ◌+◌, ◌^◌, ◌<◌, ◌≤◌, List, ◌++◌, length, take, drop}
 use Rattle.std.specs.Int.{w64, from_le_bytes}
 use Rattle.std.proofs.Common.{get_or, refl, sym, ap, ◌∙◌, subst, arith}
-use Rattle.std.proofs.lemmas.List.{drop-drop, drop_at, length-take, length-drop, length-append, take-append-drop}
+use Rattle.std.proofs.lemmas.List.{drop-drop, drop_at, length-take, length-drop, take-append-drop}
 use Rattle.std.proofs.lemmas.Nat.{le_bytes_8, from_le_bytes-to_le_bytes_8}
 use Rattle.elias_fano.specs.Spelling.{number}
 use Rattle.elias_fano.proofs.CallerLemmas.{IsBytes, IsBytes-drop, IsBytes-take}

@@ -1,5 +1,5 @@
 -- Reading the partitions, with the first fault that is met.
-use Rattle.std.specs.Prelude.{ℕ, ◌+◌, ◌-◌, ◌==◌, List, [], ◌∷◌, length, Result, Ok, Err, if◌then◌else◌}
+use Rattle.std.specs.Prelude.{ℕ, ◌+◌, ◌-◌, ◌==◌, List, [], ◌∷◌, length, Result, Ok, if◌then◌else◌}
 use Rattle.pthash.specs.declared.TheConstants.{MAX_PILOTS}
 use Rattle.pthash.specs.Shapes.{ShapeData}
 use Rattle.pthash.specs.Sizes.{table_size_of, bucket_count_of}

@@ -1,4 +1,4 @@
-use Rattle.std.proofs.Common.{◌≡◌, ℕ, ◌≤◌, List, length, arith}
+use Rattle.std.proofs.Common.{arith}
 use Rattle.elias_fano.proofs.CallerLemmas.{below_len-le, below_len-most}
 use Rattle.pilot_codecs.proofs.CallerLemmas.{below_more}
 use Rattle.index_file.proofs.counts.below.Goals as goal

@@ -1,8 +1,9 @@
-use Rattle.std.proofs.Common.{◌≡◌, ℕ, ◌+◌, ◌*◌, ◌<◌, ◌≤◌, List, length, drop, Ok, Err, sym, ap, subst, ◌∙◌, arith}
+use Rattle.std.proofs.Common.{◌≡◌, ℕ, List, length, Err, sym, ap, subst, ◌∙◌, arith}
 use Rattle.std.specs.Prelude.{sum}
 use Rattle.elias_fano.specs.Values.{below_len}
 use Rattle.index_text.specs.declared.fault.IndexFault.TheVariants as faults
-use Rattle.index_file.proofs.Counting.{AreWords, AreWords-length, AreWords-within, AreWords-small, words_read, counts_at-short, counts_at-field, counts_at-sum, counts_at-ok}
+use Rattle.index_file.proofs.Counting.{AreWords-length, AreWords-within, AreWords-small, words_read}
+use Rattle.index_file.proofs.Counting.{counts_at-short, counts_at-field, counts_at-sum, counts_at-ok}
 use Rattle.index_file.proofs.counts.counts_of.Goals as goal
 
 pub returns-then-few-parts-clause-value : goal.returns-then-few-parts-clause-value
@@ -37,7 +38,8 @@ returns-then-sum-n-clause-value c =
     c.new-counts.ensures.items c.in_ok-append_words.ensures.ok in
     let few = c.below-few.ensures ∙ ap (λ (ks : List ℕ). below_len 67108865 ks) c.deref.ensures.value in
     let adds = c.sum_of-sum.ensures ∙ ap sum c.deref-2.ensures.value in
-    let other : sum words ≡ c.args.n → ⊥ = λ is. c.if-sum-n.true (adds ∙ is) in
+    let differ = c.if-sum-n.true in
+    let other : sum words ≡ c.args.n → ⊥ = λ is. omega (arith, adds) in
     counts_at-sum c.args.n c.args.parts c.below-few.result bytes c.args.at words w few c.if-few-parts.false other
     ∙ ap (λ (k : ℕ). Err (faults.Count c.args.n k)) (sym adds)
 
@@ -49,7 +51,7 @@ returns-clause-value c =
     c.new-counts.ensures.items c.in_ok-append_words.ensures.ok in
     let few = c.below-few.ensures ∙ ap (λ (ks : List ℕ). below_len 67108865 ks) c.deref.ensures.value in
     let adds = c.sum_of-sum.ensures ∙ ap sum c.deref-2.ensures.value in
-    counts_at-ok c.args.n c.args.parts c.below-few.result bytes c.args.at words w few c.if-few-parts.false (sym adds ∙ c.if-sum-n.false)
+    counts_at-ok c.args.n c.args.parts c.below-few.result bytes c.args.at words w few c.if-few-parts.false (omega (arith, adds, c.if-sum-n.false))
 
 pub returns-clause-count : goal.returns-clause-count
 returns-clause-count c =

@@ -1,4 +1,4 @@
-use Rattle.std.proofs.Common.{◌≡◌, ◌+◌, drop, Ok, ap, ◌∙◌, arith}
+use Rattle.std.proofs.Common.{arith}
 use Rattle.index_file.proofs.Counting.{mark_at-some}
 use Rattle.index_file.proofs.counts.mark_of.Goals as goal
 

@@ -1,4 +1,4 @@
-use Rattle.std.proofs.Common.{◌≡◌, ℕ, ◌+◌, ◌<◌, ◌≤◌, List, length, sym, subst, ◌∙◌, arith}
+use Rattle.std.proofs.Common.{◌+◌, sym, subst, ◌∙◌, arith}
 use Rattle.pilot_codecs.proofs.CallerLemmas.{each_below}
 use Rattle.index_file.proofs.Totals.{AreStarts, starts_first, starts_more, starts_all}
 use Rattle.index_file.proofs.counts.starts_of.Goals as goal

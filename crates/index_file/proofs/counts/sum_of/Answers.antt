@@ -1,8 +1,8 @@
-use Rattle.std.proofs.Common.{◌≡◌, ℕ, ◌<◌, ◌≤◌, List, length, take, get_or, ap, ◌∙◌, arith}
+use Rattle.std.proofs.Common.{ap, ◌∙◌, arith}
 use Rattle.std.specs.Prelude.{sum}
 use Rattle.std.proofs.lemmas.List.{take_all}
 use Rattle.pilot_codecs.proofs.CallerLemmas.{each_below}
-use Rattle.index_file.proofs.Totals.{IsTotal, total_first, total_more}
+use Rattle.index_file.proofs.Totals.{total_first, total_more}
 use Rattle.index_file.proofs.counts.sum_of.Goals as goal
 
 pub loop-i-init : goal.loop-i-init

@@ -1,5 +1,3 @@
-use Rattle.std.proofs.Common.{◌≡◌, ◌*◌, ◌≤◌, take}
-use Rattle.std.specs.Prelude.{sum}
 use Rattle.index_file.proofs.Totals.{IsTotal}
 use Rattle.index_file.proofs.counts.sum_of.Given as goal
 

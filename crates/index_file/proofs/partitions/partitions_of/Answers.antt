@@ -1,4 +1,4 @@
-use Rattle.std.proofs.Common.{◌≡◌, ◌+◌, ◌<◌, ◌≤◌, length, drop, sym, subst, arith}
+use Rattle.std.proofs.Common.{◌+◌, sym, subst, arith}
 use Rattle.std.proofs.lemmas.Result.{err_from_is_err_and}
 use Rattle.bucket_map.specs.ShapeData.{shape_data}
 use Rattle.pilot_codecs.proofs.CallerLemmas.{each_below}
@@ -12,7 +12,8 @@ lists_of-requires-clause-few c =
 pub returns-in_err-lists-clause-value : goal.returns-in_err-lists-clause-value
 returns-in_err-lists-clause-value c =
     let p = err_from_is_err_and c.from_residual-in_err-lists.result c.from_residual-in_err-lists.ensures.1 in
-    rw (p.1, p.2) (partitions_err c.args.bytes.now c.args.enc (shape_data c.args.shape) c.args.counts.now c.args.at c.loop-i.i c.loop-i.parts.items c.loop-i.place
+    rw (p.1, p.2) (partitions_err c.args.bytes.now c.args.enc (shape_data c.args.shape) c.args.counts.now c.args.at c.loop-i.i c.loop-i.parts.items
+    c.loop-i.place
     c.in_err-lists.field-0.0 c.loop-i-test.true c.loop-i.invariant c.in_err-lists.ensures.value)
 
 pub loop-i-preserved : goal.loop-i-preserved

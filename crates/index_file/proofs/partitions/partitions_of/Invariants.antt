@@ -1,4 +1,3 @@
-use Rattle.std.specs.Prelude.{◌≤◌, length}
 use Rattle.bucket_map.specs.ShapeData.{shape_data}
 use Rattle.index_file.proofs.PartitionSteps.{ArePartitions}
 use Rattle.index_file.proofs.partitions.partitions_of.Given as goal

@@ -1,4 +1,4 @@
-use Rattle.std.proofs.Common.{◌≡◌, ◌<◌, ◌≤◌, length, drop, arith}
+use Rattle.std.proofs.Common.{drop, arith}
 use Rattle.std.proofs.lemmas.Result.{err_from_is_err_and}
 use Rattle.index_file.proofs.ListSteps.{pilots_err, pilots_no, pilots_yes}
 use Rattle.index_file.proofs.partitions.pilots_of.Goals as goal

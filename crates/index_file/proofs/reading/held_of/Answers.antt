@@ -1,4 +1,4 @@
-use Rattle.std.proofs.Common.{◌≡◌, sym, ap, ◌∙◌, arith}
+use Rattle.std.proofs.Common.{sym, ap, ◌∙◌, arith}
 use Rattle.bucket_map.specs.ShapeData.{shape_data, IsShape-shape_data}
 use Rattle.index_file.specs.Starts.{starts_from}
 use Rattle.index_file.specs.Held.{parts_data}

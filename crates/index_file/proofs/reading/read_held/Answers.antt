@@ -1,4 +1,4 @@
-use Rattle.std.proofs.Common.{◌≡◌, ◌≤◌, length, arith}
+use Rattle.std.proofs.Common.{arith}
 use Rattle.index_file.proofs.Whole.{sealed_length}
 use Rattle.index_file.proofs.reading.read_held.Goals as goal
 

@@ -1,11 +1,7 @@
-use Rattle.std.proofs.Common.{◌≡◌, ◌<◌, ℕ, List, sym, ap, subst, ◌∙◌, arith}
+use Rattle.std.proofs.Common.{sym, ap, subst, ◌∙◌, arith}
 use Rattle.std.specs.Prelude.{Ok}
-use Rattle.pilot_codecs.specs.declared.code.Encoding.{Encoding}
-use Rattle.build_outcome.specs.Index.{IndexData}
-use Rattle.elias_fano.proofs.CallerLemmas.{IsBytes}
 use Rattle.index_text.specs.Text.{IsIndex}
 use Rattle.index_text.proofs.CallerLemmas.{index_only}
-use Rattle.index_file.specs.Held.{held_data}
 use Rattle.index_file.proofs.Whole.{read_is, kept_is, no_fault}
 use Rattle.index_file.proofs.reading.read_index.Goals as goal
 

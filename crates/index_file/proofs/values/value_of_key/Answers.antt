@@ -1,7 +1,6 @@
-use Rattle.std.proofs.Common.{◌≡◌, ◌+◌, ◌<◌, ℕ, List, length, sym, ap, subst, ◌∙◌, arith}
+use Rattle.std.proofs.Common.{◌≡◌, ◌+◌, ◌<◌, length, sym, ◌∙◌, arith}
 use Rattle.std.specs.Prelude.{Some}
 use Rattle.pthash.specs.Sizes.{partition_of}
-use Rattle.pthash.specs.Hash.{first_hash, second_hash}
 use Rattle.build_outcome.specs.Values.{position_value, pair_position}
 use Rattle.index_file.specs.Lists.{lists_data}
 use Rattle.index_file.proofs.Looked.{starts_count, start_is, value_fits, value_of-none, value_of-some, place_of}

@@ -1,4 +1,3 @@
-use Rattle.std.proofs.Common.{◌≡◌, ℕ, List, [], ◌∷◌, ◌++◌, ap, ◌∙◌}
 use Rattle.index_file.proofs.Written.{three_pieces}
 use Rattle.index_file.proofs.writing.put_head.Goals as goal
 

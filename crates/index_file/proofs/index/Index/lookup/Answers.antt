@@ -1,6 +1,5 @@
-use Rattle.std.proofs.Common.{◌≡◌, ◌<◌, ℕ, List, sym, ap, subst, ◌∙◌, arith}
+use Rattle.std.proofs.Common.{◌≡◌, ◌<◌, sym, subst}
 use Rattle.std.specs.Prelude.{None, IfSome, ◌↔◌}
-use Rattle.build_outcome.specs.Values.{value_of}
 use Rattle.build_outcome.specs.ValidValueLaws.{value_of-lt}
 use Rattle.index_file.specs.Encoded.{keys_beside}
 use Rattle.index_file.specs.Held.{held_data}
