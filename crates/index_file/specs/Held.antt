@@ -1,5 +1,5 @@
 -- What an index keeps, as plain data.
-use Rattle.std.specs.Prelude.{◌≡◌, ℕ, List, length, map, Option, Some, None, option_map, All}
+use Rattle.std.specs.Prelude.{◌≡◌, ℕ, List, length, map, Option, Some, None, All}
 use Rattle.pthash.specs.declared.Map.{Map}
 use Rattle.bucket_map.specs.ShapeData.{shape_data}
 use Rattle.pilot_codecs.specs.declared.code.Encoding.{Encoding}

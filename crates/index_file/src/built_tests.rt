@@ -53,7 +53,9 @@ fn built<R: Abort + AllocGlobal + Threads + Sync>(
 fn digest(rt: &impl Abort, file: &[u8]) -> u64 {
     assert!(rt; file.len() >= 8);
     let end = &file[file.len() - 8..];
-    u64::from_le_bytes([end[0], end[1], end[2], end[3], end[4], end[5], end[6], end[7]])
+    u64::from_le_bytes([
+        end[0], end[1], end[2], end[3], end[4], end[5], end[6], end[7],
+    ])
 }
 
 // The keys have the values below their count in the index that a file is, each its own, as when it was built.

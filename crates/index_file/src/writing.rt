@@ -53,13 +53,7 @@ fn map_number_of(map: Map) -> u8
 }
 
 // The fields of the second version, by what they are of.
-pub(crate) fn marked_head(
-    seed: u64,
-    n: u64,
-    shape: Shape,
-    parts: u64,
-    enc: Encoding,
-) -> HeadFields
+pub(crate) fn marked_head(seed: u64, n: u64, shape: Shape, parts: u64, enc: Encoding) -> HeadFields
     ensures { result ≡ marked_fields seed n (shape_data shape) parts enc }
 {
     HeadFields {

@@ -1,4 +1,4 @@
-use Rattle.std.proofs.Common.{◌≡◌, ◌++◌, sym, ap, subst, ◌∙◌}
+use Rattle.std.proofs.Common.{◌++◌, sym, ap, subst, ◌∙◌}
 use Rattle.std.specs.Prelude.{Some, All}
 use Rattle.bucket_map.specs.ShapeData.{shape_data}
 use Rattle.build_outcome.specs.Index.{KeyMarkData, IndexData}

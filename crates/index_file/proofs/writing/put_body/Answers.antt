@@ -1,4 +1,4 @@
-use Rattle.std.proofs.Common.{◌≡◌, ◌++◌, ap, ◌∙◌}
+use Rattle.std.proofs.Common.{◌++◌, ap, ◌∙◌}
 use Rattle.build_outcome.specs.Index.{KeyMarkData}
 use Rattle.index_text.specs.Text.{body_text}
 use Rattle.index_file.specs.Encoded.{marked}

@@ -1,5 +1,5 @@
-use Rattle.std.proofs.Common.{◌≡◌, length}
-use Rattle.std.specs.Prelude.{drop, OnOk}
+use Rattle.std.proofs.Common.{length}
+use Rattle.std.specs.Prelude.{drop}
 use Rattle.build_outcome.specs.Validity.{IsMark}
 use Rattle.index_text.specs.Text.{IsIndex}
 use Rattle.index_file.specs.Encoded.{marked}
