@@ -18,8 +18,8 @@ abbrev pub parts_of : Rules → List (List ℕ) → ℕ → Result (List PartDat
 parts_of rules keys seed = parts_from rules seed 0 (partitions_of (records_of keys seed) rules.parts)
 
 -- where they all end well, so do those of the records
-pub parts_of-HasParts : (rules : Rules) (keys : List (List ℕ)) (seed : ℕ) (parts : List PartData) → AreRules rules → parts_of rules keys seed ≡ Ok parts →
-    HasParts rules seed (records_of keys seed) parts
+pub parts_of-HasParts : (rules : Rules) (keys : List (List ℕ)) (seed : ℕ) (parts : List PartData) → AreRules rules →
+    parts_of rules keys seed ≡ Ok parts → HasParts rules seed (records_of keys seed) parts
 parts_of-HasParts rules keys seed parts ranges ends = record { ranges = ranges; hashes = All-HashesFit-records_of keys seed; ends = ends }
 
 -- whether two records have the same pair of hashes
@@ -55,8 +55,8 @@ no_clash rules keys seed parts ranges ends =
     (λ i. have_same_pair (sym first i) (sym second i)) ∙ are_apart-at have_same_pair records x y none apart before (omega arith))
 
 -- an attempt all of whose partitions end well is complete
-pub attempt_of-complete : (rules : Rules) (keys : List (List ℕ)) (seed : ℕ) (parts : List PartData) → AreRules rules → parts_of rules keys seed ≡ Ok parts →
-    attempt_of rules keys seed ≡ complete parts
+pub attempt_of-complete : (rules : Rules) (keys : List (List ℕ)) (seed : ℕ) (parts : List PartData) → AreRules rules →
+    parts_of rules keys seed ≡ Ok parts → attempt_of rules keys seed ≡ complete parts
 unfolding attempt_of
 attempt_of-complete rules keys seed parts ranges ends = rw (no_clash rules keys seed parts ranges ends, ends) refl
 

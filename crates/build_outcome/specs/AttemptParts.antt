@@ -1,5 +1,6 @@
 -- The partitions of an attempt that all ended well, one by one and counted.
-use Rattle.std.specs.Prelude.{◌≡◌, ℕ, zero, suc, ◌+◌, ◌<◌, ◌≤◌, List, [], ◌∷◌, length, take, sum_by, slice_index_or, Result, Ok, Err}
+use Rattle.std.specs.Prelude.{◌≡◌, ℕ, zero, suc, ◌+◌, ◌<◌, ◌≤◌, List, []}
+use Rattle.std.specs.Prelude.{◌∷◌, length, take, sum_by, slice_index_or, Result, Ok, Err}
 use Rattle.std.proofs.Common.{refl, sym, ap, ◌∙◌, subst, arith, ⊎_elim}
 use Rattle.std.proofs.lemmas.Bool.{cases_lt}
 use Rattle.std.proofs.lemmas.List.{nil_from_length, take-take}
@@ -57,8 +58,8 @@ parts_from-ArePartsOf rules seed number (records ∷ lists) parts ends =
     (parts_from-ArePartsOf rules seed (number + 1) lists first.others first.more_end))
 
 -- a partition has as many keys as it has records
-pub part_of-count : (rules : Rules) (seed : ℕ) (records : List Record) (part : PartData) → IsShape rules.shape → part_of rules seed records ≡ Ok part →
-    part.n ≡ length records
+pub part_of-count : (rules : Rules) (seed : ℕ) (records : List Record) (part : PartData) → IsShape rules.shape →
+    part_of rules seed records ≡ Ok part → part.n ≡ length records
 part_of-count rules seed records part shape ends =
     ⊎_elim
     (λ (some : 0 < length records).
@@ -90,7 +91,8 @@ key_count-parts rules seed number (records ∷ lists) parts shape ends =
     ∙ omega (arith, sum_by-cons (λ (p : PartData). p.n) first.part first.others, sum_by-cons (length {A = Record}) records lists)
 
 -- the keys before a partition and its own are those before the next
-pub key_count-next : (parts : List PartData) (q : ℕ) → q < length parts → key_count (take (q + 1) parts) ≡ key_count (take q parts) + (part_at parts q).n
+pub key_count-next : (parts : List PartData) (q : ℕ) → q < length parts →
+    key_count (take (q + 1) parts) ≡ key_count (take q parts) + (part_at parts q).n
 key_count-next parts q within = sum_by_more (λ (p : PartData). p.n) parts q (record { n = 0; pilots = []; free = [] }) within
 
 -- and no more than those before a later one

@@ -56,8 +56,8 @@ outcome_from-built rules keys causes (seed ∷ seeds) x is =
     (λ cause later. outcome_from-built rules keys (causes ++ cause ∷ []) seeds x later) is
 
 -- an index that was built gives its keys pairwise different values below their number
-pub built-IsOneToOne : (rules : Rules) (keys : List (List ℕ)) (seeds : List ℕ) (x : IndexData) → AreRules rules → outcome_of rules keys seeds ≡ built x →
-    IsOneToOne x keys
+pub built-IsOneToOne : (rules : Rules) (keys : List (List ℕ)) (seeds : List ℕ) (x : IndexData) → AreRules rules →
+    outcome_of rules keys seeds ≡ built x → IsOneToOne x keys
 built-IsOneToOne rules keys seeds x ranges is =
     let from : IsBuiltFrom rules keys seeds x = outcome_from-built rules keys [] seeds x is in
     let seed : ℕ = slice_index seeds from.place in
@@ -65,8 +65,8 @@ built-IsOneToOne rules keys seeds x ranges is =
     (index_of-IsOneToOne rules keys seed from.parts ranges (complete-parts rules keys seed from.parts from.ends))
 
 -- an index that was built is valid
-pub built-IsValidIndex : (rules : Rules) (keys : List (List ℕ)) (seeds : List ℕ) (x : IndexData) → AreRules rules → All (λ seed. seed < 2 ^ 64) seeds →
-    1 ≤ length keys → length keys ≤ MAX_KEYS → outcome_of rules keys seeds ≡ built x → IsValidIndex x
+pub built-IsValidIndex : (rules : Rules) (keys : List (List ℕ)) (seeds : List ℕ) (x : IndexData) → AreRules rules →
+    All (λ seed. seed < 2 ^ 64) seeds → 1 ≤ length keys → length keys ≤ MAX_KEYS → outcome_of rules keys seeds ≡ built x → IsValidIndex x
 built-IsValidIndex rules keys seeds x ranges seeds_fit some few is =
     let from : IsBuiltFrom rules keys seeds x = outcome_from-built rules keys [] seeds x is in
     let seed : ℕ = slice_index seeds from.place in
@@ -79,8 +79,8 @@ abbrev pub AreDistinctKeys : List (List ℕ) → Type 0
 AreDistinctKeys keys = (i j : ℕ) → i < j → j < length keys → key_at keys i ≢ key_at keys j
 
 -- where an index was built, no key comes twice
-pub built-AreDistinctKeys : (rules : Rules) (keys : List (List ℕ)) (seeds : List ℕ) (x : IndexData) → AreRules rules → outcome_of rules keys seeds ≡ built x →
-    AreDistinctKeys keys
+pub built-AreDistinctKeys : (rules : Rules) (keys : List (List ℕ)) (seeds : List ℕ) (x : IndexData) → AreRules rules →
+    outcome_of rules keys seeds ≡ built x → AreDistinctKeys keys
 built-AreDistinctKeys rules keys seeds x ranges is i j before within same =
     values_differ x keys i j (built-IsOneToOne rules keys seeds x ranges is) before within (ap (value_of x) same)
 

@@ -32,7 +32,8 @@ clash_of-found keys seed i j first =
     rw second (rw twin refl)
 
 -- where no key has an earlier twin, there is no clash
-pub clash_of-none : (keys : List (List ℕ)) (seed : ℕ) → ((x y : ℕ) → x < y → y < length keys → is_twin keys seed y x ≡ false) → clash_of keys seed ≡ None
+pub clash_of-none : (keys : List (List ℕ)) (seed : ℕ) → ((x y : ℕ) → x < y → y < length keys → is_twin keys seed y x ≡ false) →
+    clash_of keys seed ≡ None
 unfolding clash_of
 clash_of-none keys seed apart =
     let none : least_below (λ y. is_some (earlier_twin keys seed y)) (length keys) ≡ None =

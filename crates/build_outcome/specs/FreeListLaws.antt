@@ -42,7 +42,8 @@ free_are_free is_taken n k within =
 -- they rise where those below and one more do
 rise_more : (free : List ℕ) (n : ℕ) (b : Bool) → All (λ p. p < n) free →
     ((i j : ℕ) → i < j → j < length free → slice_index free i < slice_index free j) →
-    (i j : ℕ) → i < j → j < length (free ++ cond b (n ∷ []) []) → slice_index (free ++ cond b (n ∷ []) []) i < slice_index (free ++ cond b (n ∷ []) []) j
+    (i j : ℕ) → i < j → j < length (free ++ cond b (n ∷ []) []) →
+    slice_index (free ++ cond b (n ∷ []) []) i < slice_index (free ++ cond b (n ∷ []) []) j
 rise_more free n false below rise i j before within =
     subst (λ ps. (j < length ps) → slice_index ps i < slice_index ps j) (sym (append-nil free)) (λ inside. rise i j before inside) within
 rise_more free n true below rise i j before within =
@@ -124,7 +125,8 @@ unfolding free_list_of
 length-free_list_of is_taken n size = length-map (numbers_below (size - n)) (free_entry is_taken n) ∙ length-numbers_below (size - n)
 
 -- the entry at a place
-pub get_or-free_list_of : (is_taken : ℕ → Bool) (n size k : ℕ) → k < size - n → slice_index (free_list_of is_taken n size) k ≡ free_entry is_taken n k
+pub get_or-free_list_of : (is_taken : ℕ → Bool) (n size k : ℕ) → k < size - n →
+    slice_index (free_list_of is_taken n size) k ≡ free_entry is_taken n k
 unfolding free_list_of
 get_or-free_list_of is_taken n size k within =
     get_or-map (free_entry is_taken n) (numbers_below (size - n)) k 0 0 (omega (arith, length-numbers_below (size - n)))
@@ -231,8 +233,8 @@ entry_is_free is_taken n size k takes within taken =
     ∙ free_are_free is_taken n (taken_from is_taken n k) (rank_is_below is_taken n size k takes within taken)
 
 -- two taken positions, the first before the second, have different values
-values_of_two : (is_taken : ℕ → Bool) (n size p q : ℕ) → TakesCount is_taken n size → p < q → q < size → is_taken p ≡ true → is_taken q ≡ true →
-    position_value n (free_list_of is_taken n size) p ≡ position_value n (free_list_of is_taken n size) q → ⊥
+values_of_two : (is_taken : ℕ → Bool) (n size p q : ℕ) → TakesCount is_taken n size → p < q → q < size → is_taken p ≡ true →
+    is_taken q ≡ true → position_value n (free_list_of is_taken n size) p ≡ position_value n (free_list_of is_taken n size) q → ⊥
 values_of_two is_taken n size p q takes before within first second same =
     let free : List ℕ = free_list_of is_taken n size in
     ⊎_elim

@@ -1,5 +1,6 @@
 -- The index of a complete attempt is one-to-one: its keys have pairwise different values below their number.
-use Rattle.std.specs.Prelude.{◌≡◌, ◌≢◌, ℕ, ◌+◌, ◌<◌, true, List, [], length, map, take, slice_index_or, Some, option_map, IsSomeAnd, All, Ok}
+use Rattle.std.specs.Prelude.{◌≡◌, ◌≢◌, ℕ, ◌+◌, ◌<◌, true, List, [], length}
+use Rattle.std.specs.Prelude.{map, take, slice_index_or, Some, option_map, IsSomeAnd, All, Ok}
 use Rattle.std.specs.Option.{unwrap_or}
 use Rattle.std.proofs.Common.{sym, ap, ◌∙◌, subst, arith}
 use Rattle.std.proofs.lemmas.Grind.{same_number_lists}
@@ -41,8 +42,8 @@ value_of_record rules keys seed parts a b count some =
     ∙ ap (option_map (λ v. key_count (take q parts) + v)) (part_value-some rules.shape.map seed (part_at parts q) a b some)
 
 -- the value of the key at a place is the number of its record
-pub value_of-index : (rules : Rules) (keys : List (List ℕ)) (seed : ℕ) (parts : List PartData) → AreRules rules → parts_of rules keys seed ≡ Ok parts →
-    (k : ℕ) → k < length keys →
+pub value_of-index : (rules : Rules) (keys : List (List ℕ)) (seed : ℕ) (parts : List PartData) → AreRules rules →
+    parts_of rules keys seed ≡ Ok parts → (k : ℕ) → k < length keys →
     value_of (index_of rules keys seed parts) (key_at keys k) ≡ Some (record_number rules seed parts (record_at_place (key_at keys k) seed k))
 unfolding value_of
 value_of-index rules keys seed parts ranges ends k within =
@@ -56,7 +57,8 @@ value_of-index rules keys seed parts ranges ends k within =
     (subst (λ r. 0 < (part_at parts (part_number rules.parts r)).n) here some)
 
 -- the values of the keys, in their order, are the numbers of their records
-values_are_numbers : (rules : Rules) (keys : List (List ℕ)) (seed : ℕ) (parts : List PartData) → AreRules rules → parts_of rules keys seed ≡ Ok parts →
+values_are_numbers : (rules : Rules) (keys : List (List ℕ)) (seed : ℕ) (parts : List PartData) → AreRules rules →
+    parts_of rules keys seed ≡ Ok parts →
     map (key_number (index_of rules keys seed parts)) keys ≡ map (record_number rules seed parts) (records_of keys seed)
 values_are_numbers rules keys seed parts ranges ends =
     let x : IndexData = index_of rules keys seed parts in
@@ -74,8 +76,8 @@ values_are_numbers rules keys seed parts ranges ends =
     ∙ sym (get_or-map number (records_of keys seed) k none 0 (omega arith)))
 
 -- the index of a complete attempt is one-to-one on its keys
-pub index_of-IsOneToOne : (rules : Rules) (keys : List (List ℕ)) (seed : ℕ) (parts : List PartData) → AreRules rules → parts_of rules keys seed ≡ Ok parts →
-    IsOneToOne (index_of rules keys seed parts) keys
+pub index_of-IsOneToOne : (rules : Rules) (keys : List (List ℕ)) (seed : ℕ) (parts : List PartData) → AreRules rules →
+    parts_of rules keys seed ≡ Ok parts → IsOneToOne (index_of rules keys seed parts) keys
 index_of-IsOneToOne rules keys seed parts ranges ends =
     let x : IndexData = index_of rules keys seed parts in
     let has : HasParts rules seed (records_of keys seed) parts = parts_of-HasParts rules keys seed parts ranges ends in

@@ -31,7 +31,8 @@ part_of-finished rules seed (r ∷ records) state finished =
     ap (searched (length (r ∷ records)) (bucket_count rules (r ∷ records)) (partition_plan rules seed (r ∷ records))) finished.ends
 
 -- a search that is stuck gives the number of the bucket
-pub part_of-stuck : (rules : Rules) (seed rank : ℕ) (records : List Record) → 0 < length records → search_of (partition_plan rules seed records) ≡ Err rank →
+pub part_of-stuck : (rules : Rules) (seed rank : ℕ) (records : List Record) → 0 < length records →
+    search_of (partition_plan rules seed records) ≡ Err rank →
     part_of rules seed records ≡ Err (bucket_at (partition_plan rules seed records).buckets rank).number
 unfolding part_of
 part_of-stuck rules seed rank [] some stuck = absurd (omega arith)

@@ -32,7 +32,8 @@ clash_of_attempt (Some c) parts i j same =
     λ k. Some (first k, second k)
 
 -- an attempt that clashes does so at the first clash of the list
-pub attempt_of-clashed : (rules : Rules) (keys : List (List ℕ)) (seed i j : ℕ) → attempt_of rules keys seed ≡ clashed i j → clash_of keys seed ≡ Some (i, j)
+pub attempt_of-clashed : (rules : Rules) (keys : List (List ℕ)) (seed i j : ℕ) → attempt_of rules keys seed ≡ clashed i j →
+    clash_of keys seed ≡ Some (i, j)
 unfolding attempt_of
 attempt_of-clashed rules keys seed i j same =
     clash_of_attempt (clash_of keys seed) (parts_from rules seed 0 (partitions_of (records_of keys seed) rules.parts)) i j same
@@ -51,7 +52,8 @@ repeat_or_on keys i j true later same places more =
 repeat_or_on keys i j false later other places more = more
 
 -- the same after an attempt
-after_repeats : (rules : Rules) (keys : List (List ℕ)) (seed : ℕ) (go_on : Cause → Outcome) (attempt : Attempt) → attempt_of rules keys seed ≡ attempt →
+after_repeats : (rules : Rules) (keys : List (List ℕ)) (seed : ℕ) (go_on : Cause → Outcome) (attempt : Attempt) →
+    attempt_of rules keys seed ≡ attempt →
     ((cause : Cause) → RepeatsKey keys (go_on cause)) → RepeatsKey keys (after_attempt rules keys seed go_on attempt)
 after_repeats rules keys seed go_on (clashed i j) is more =
     repeat_or_on keys i j (bytes_eq (key_at keys i) (key_at keys j)) (go_on (SameHash i j)) refl

@@ -36,8 +36,8 @@ abbrev pub bucket_number : Rules → List Record → Record → ℕ
 bucket_number rules records r = bucket_of rules.shape.map r.a (bucket_count rules records)
 
 -- the search for some records may rely on what each search may
-pub partition_plan-IsSearchable : (rules : Rules) (seed : ℕ) (records : List Record) → AreRules rules → 0 < length records → length records ≤ MAX_KEYS →
-    IsSearchable (partition_plan rules seed records)
+pub partition_plan-IsSearchable : (rules : Rules) (seed : ℕ) (records : List Record) → AreRules rules → 0 < length records →
+    length records ≤ MAX_KEYS → IsSearchable (partition_plan rules seed records)
 partition_plan-IsSearchable rules seed records ranges some few =
     let shape = ranges.shape in
     let n : ℕ = length records in
@@ -71,8 +71,8 @@ pub record HasFinished (rules : Rules) (seed : ℕ) (records : List Record) (par
   pub is : finished_part rules seed records state ≡ part
 
 -- the state of a search that gave a partition
-finished_by : (rules : Rules) (seed : ℕ) (records : List Record) (part : PartData) (answer : Result SearchState ℕ) → IsShape rules.shape → 0 < length records →
-    search_of (partition_plan rules seed records) ≡ answer →
+finished_by : (rules : Rules) (seed : ℕ) (records : List Record) (part : PartData) (answer : Result SearchState ℕ) → IsShape rules.shape →
+    0 < length records → search_of (partition_plan rules seed records) ≡ answer →
     searched (length records) (bucket_count rules records) (partition_plan rules seed records) answer ≡ Ok part →
     HasFinished rules seed records part
 finished_by rules seed records part (Err rank) shape some ends gives = absurd cc

@@ -1,5 +1,6 @@
 -- Partitions built range by range: neighbours that are built apart come to what all come to together.
-use Rattle.std.specs.Prelude.{◌≡◌, ℕ, zero, suc, ◌+◌, ◌-◌, ◌<◌, ◌≤◌, List, [], ◌∷◌, ◌++◌, length, take, drop, slice_index_or, Result, Ok, Err}
+use Rattle.std.specs.Prelude.{◌≡◌, ℕ, zero, suc, ◌+◌, ◌-◌, ◌<◌, ◌≤◌, List, []}
+use Rattle.std.specs.Prelude.{◌∷◌, ◌++◌, length, take, drop, slice_index_or, Result, Ok, Err}
 use Rattle.std.proofs.Common.{refl, sym, ap, ◌∙◌, arith}
 use Rattle.std.proofs.lemmas.List.{append_assoc, append-nil, take_all, drop-drop, length-drop, length-take-le}
 use Rattle.std.proofs.Math.Seq.{drop-cons, take-add}
@@ -54,12 +55,14 @@ abbrev pub parts_between : Rules → ℕ → List (List Record) → ℕ → ℕ 
 parts_between rules seed lists from to = parts_from rules seed from (take (to - from) (drop from lists))
 
 -- all of them
-pub parts_between-all : (rules : Rules) (seed : ℕ) (lists : List (List Record)) → parts_between rules seed lists 0 (length lists) ≡ parts_from rules seed 0 lists
+pub parts_between-all : (rules : Rules) (seed : ℕ) (lists : List (List Record)) →
+    parts_between rules seed lists 0 (length lists) ≡ parts_from rules seed 0 lists
 parts_between-all rules seed lists =
     ap (parts_from rules seed 0) (take_all (length lists - 0) lists (omega arith))
 
 -- none
-pub parts_between-none : (rules : Rules) (seed : ℕ) (lists : List (List Record)) (from to : ℕ) → to ≤ from → parts_between rules seed lists from to ≡ Ok []
+pub parts_between-none : (rules : Rules) (seed : ℕ) (lists : List (List Record)) (from to : ℕ) → to ≤ from →
+    parts_between rules seed lists from to ≡ Ok []
 parts_between-none rules seed lists from to past =
     let none : to - from ≡ 0 = omega arith in
     ap (λ n. parts_from rules seed from (take n (drop from lists))) none
@@ -73,10 +76,12 @@ parts_between-cons rules seed lists from to some within =
     let count : to - from ≡ suc (to - (from + 1)) = omega arith in
     ap (λ n. parts_from rules seed from (take n (drop from lists))) count
     ∙ ap (λ rs. parts_from rules seed from (take (suc (to - (from + 1))) rs)) (drop-cons lists from [] (omega arith))
-    ∙ ap (λ k. before_parts from (part_of rules seed (slice_index_or lists from [])) (parts_from rules seed (from + 1) (take (to - (from + 1)) (drop k lists)))) next
+    ∙ ap (λ k. before_parts from (part_of rules seed (slice_index_or lists from []))
+        (parts_from rules seed (from + 1) (take (to - (from + 1)) (drop k lists)))) next
 
 -- two ranges one after the other
-pub parts_between-joined : (rules : Rules) (seed : ℕ) (lists : List (List Record)) (from middle to : ℕ) → from ≤ middle → middle ≤ to → to ≤ length lists →
+pub parts_between-joined : (rules : Rules) (seed : ℕ) (lists : List (List Record)) (from middle to : ℕ) → from ≤ middle → middle ≤ to →
+    to ≤ length lists →
     parts_between rules seed lists from to ≡ joined (parts_between rules seed lists from middle) (parts_between rules seed lists middle to)
 parts_between-joined rules seed lists from middle to first second within =
     let rest : List (List Record) = drop from lists in

@@ -1,5 +1,6 @@
 -- A valid index gives each key a value below its number of keys, or none.
-use Rattle.std.specs.Prelude.{◌≡◌, ℕ, zero, suc, ◌+◌, ◌-◌, ◌<◌, ◌≤◌, ◌==◌, Bool, true, false, cond, List, [], ◌∷◌, length, take}
+use Rattle.std.specs.Prelude.{◌≡◌, ℕ, zero, suc, ◌+◌, ◌-◌, ◌<◌, ◌≤◌, ◌==◌}
+use Rattle.std.specs.Prelude.{Bool, true, false, cond, List, [], ◌∷◌, length, take}
 use Rattle.std.specs.Prelude.{slice_index, slice_index_or, Option, Some, None, option_map, IfSome, All}
 use Rattle.std.proofs.Common.{refl, ap, subst, inl, inr, arith}
 use Rattle.std.proofs.Math.Nat.{mod-lt}

@@ -46,8 +46,8 @@ pilots_below_limit plan t state reached =
     All-from_get_or (λ k. k < plan.limit) state.pilots 0 (λ rank within. (reached.least rank (omega (arith, reached.one_pilot_a_rank))).below)
 
 -- the pilots of a partition whose search ended are below the most
-pilots_are_below : (rules : Rules) (seed : ℕ) (records : List Record) (state : SearchState) → rules.limit ≤ MAX_PILOTS → IsFinished rules seed records state →
-    All (λ k. k < MAX_PILOTS) (finished_part rules seed records state).pilots
+pilots_are_below : (rules : Rules) (seed : ℕ) (records : List Record) (state : SearchState) → rules.limit ≤ MAX_PILOTS →
+    IsFinished rules seed records state → All (λ k. k < MAX_PILOTS) (finished_part rules seed records state).pilots
 pilots_are_below rules seed records state few finished =
     let plan : SearchPlan = partition_plan rules seed records in
     let m : ℕ = bucket_count rules records in

@@ -63,8 +63,8 @@ part_of-records_in rules seed records parts q has within =
     ∙ all.each q (omega (arith, length-partitions_of records rules.parts))
 
 -- a partition that has a record comes from a search that ended
-has_finished : (rules : Rules) (seed : ℕ) (records : List Record) (parts : List PartData) (q : ℕ) → HasParts rules seed records parts → q < rules.parts →
-    0 < length (records_in records rules.parts q) → HasFinished rules seed (records_in records rules.parts q) (part_at parts q)
+has_finished : (rules : Rules) (seed : ℕ) (records : List Record) (parts : List PartData) (q : ℕ) → HasParts rules seed records parts →
+    q < rules.parts → 0 < length (records_in records rules.parts q) → HasFinished rules seed (records_in records rules.parts q) (part_at parts q)
 has_finished rules seed records parts q has within some =
     part_of-some rules seed (records_in records rules.parts q) (part_at parts q) has.ranges.shape some
     (part_of-records_in rules seed records parts q has within)

@@ -23,11 +23,12 @@ pub fn three_chains(
         ≤ length (slice_index_or (first.now ∷ second.now ∷ third.now ∷ []) it.1 []))
         (first.now ∷ second.now ∷ third.now ∷ []))) }
 
-    ensures left { IfOk result (λ made. IfSome made (λ it. chain_at it.0 it.1 ≡ drop BLOCK_RECORDS
+    ensures left { IfOk result (λ made. IfSome made (λ it.
+        chain_at it.0 it.1 ≡ drop BLOCK_RECORDS
         (slice_index_or (first.now ∷ second.now ∷ third.now ∷ []) it.1 []))) }
 
-    ensures order { IfOk result (λ made. IfSome made (λ it. spilled.new.items ++ chain_at it.0 it.1
-        ≡ spilled.old.items
+    ensures order { IfOk result (λ made. IfSome made (λ it.
+        spilled.new.items ++ chain_at it.0 it.1 ≡ spilled.old.items
         ++ slice_index_or (first.now ∷ second.now ∷ third.now ∷ []) it.1 [])) }
 
     ensures others { IfOk result (λ made. IfSome made (λ it. (other : ℕ) → other ≢ it.1

@@ -1,5 +1,6 @@
 -- The hash of the bytes that are left, from the state that the earlier blocks gave.
-use Rattle.std.proofs.Common.{◌≡◌, ℕ, suc, ◌*◌, ◌/◌, ◌<◌, ◌≤◌, List, [], ◌∷◌, length, take, drop, fold, refl, sym, ap, ◌∙◌, arith, length-drop, bit_xor, ◌^◌}
+use Rattle.std.proofs.Common.{◌≡◌, ℕ, suc, ◌*◌, ◌/◌, ◌<◌, ◌≤◌, List, [], ◌∷◌, length}
+use Rattle.std.proofs.Common.{take, drop, fold, refl, sym, ap, ◌∙◌, arith, length-drop, bit_xor, ◌^◌}
 use Rattle.std.proofs.lemmas.List.{drop-drop}
 use Rattle.murmur64.proofs.Numbers.{number_of-bytes}
 use Rattle.pthash.specs.declared.TheConstants.{MULTIPLIER}

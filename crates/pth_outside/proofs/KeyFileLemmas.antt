@@ -37,7 +37,8 @@ short_test key fits = false_from_ne_true _ (λ is. let long : LONGEST_KEY < leng
 pub no_long : (i : ℕ) (keys : List (List ℕ)) → AreShort keys → position_from is_too_long i keys ≡ None
 unfolding AreShort
 no_long i [] short = refl
-no_long i (k ∷ keys) short = ap (λ (b : Bool). cond b (Some i) (position_from is_too_long (i + 1) keys)) (short_test k short.0) ∙ no_long (i + 1) keys short.1
+no_long i (k ∷ keys) short =
+    ap (λ (b : Bool). cond b (Some i) (position_from is_too_long (i + 1) keys)) (short_test k short.0) ∙ no_long (i + 1) keys short.1
 
 -- behind short keys the first that is too long
 first_long : (i : ℕ) (keys left : List (List ℕ)) (most : ℕ) → AreShort keys → HasLongFirst left → length keys < most →
@@ -145,7 +146,8 @@ pub so_far_more : (name line : List ℕ) (told told' : Option FileMap) (r r' : R
 so_far_more name line told told' r r' keys keys' so_far same named counted step got fits pushed there =
     let S : Option FileMap → Type 0 = λ t. IsInStep r t → IsInStep r' t in
     let G : Option FileMap → Type 0 = λ t. IsInStep r t → ForSome (contents t r.name) (λ bytes. lines_left r bytes ≡ line ∷ lines_left r' bytes) in
-    let here : (bytes : List ℕ) → contents told name ≡ Some bytes → contents told r.name ≡ Some bytes = λ bytes is. ap (contents told) so_far.named ∙ is in
+    let here : (bytes : List ℕ) → contents told name ≡ Some bytes → contents told r.name ≡ Some bytes =
+        λ bytes is. ap (contents told) so_far.named ∙ is in
     record {
       named = named ∙ so_far.named;
       counted = omega (arith, counted, so_far.counted, ap length pushed, length-append keys (line ∷ []));

@@ -1,5 +1,6 @@
 -- Lists of which no element belongs together with a later one, by a test.
-use Rattle.std.specs.Prelude.{◌≡◌, ℕ, zero, suc, ◌<◌, Bool, true, false, not, ◌&&◌, ◌||◌, ◌==◌, cond, nat_lt, List, [], ◌∷◌, length, map}
+use Rattle.std.specs.Prelude.{◌≡◌, ℕ, zero, suc, ◌<◌, Bool, true, false, not, ◌&&◌}
+use Rattle.std.specs.Prelude.{◌||◌, ◌==◌, cond, nat_lt, List, [], ◌∷◌, length, map}
 use Rattle.std.specs.Prelude.{filter, slice_index_or}
 use Rattle.std.specs.List.{list_any, list_all}
 use Rattle.std.proofs.Common.{refl, sym, ap, ◌∙◌, subst, arith}
@@ -74,7 +75,8 @@ is_distinct-map_of_repeat f xs twice =
     false_from_ne_true (is_distinct (map f xs)) (λ distinct. both_ways (is_distinct xs) twice (is_distinct-from_map f xs distinct))
 
 -- where none passes, the one at a place fails
-none_at : {A : Type 0} (test : A → Bool) (xs : List A) (k : ℕ) (d : A) → list_any test xs ≡ false → k < length xs → test (slice_index_or xs k d) ≡ false
+none_at : {A : Type 0} (test : A → Bool) (xs : List A) (k : ℕ) (d : A) → list_any test xs ≡ false → k < length xs →
+    test (slice_index_or xs k d) ≡ false
 none_at test [] k d none within = absurd (omega arith)
 none_at test (x ∷ xs) zero d none within = (or_parts (test x) (list_any test xs) none).0
 none_at test (x ∷ xs) (suc k) d none within = none_at test xs k d (or_parts (test x) (list_any test xs) none).1 (omega arith)
@@ -94,7 +96,8 @@ none_by_class : {A : Type 0} (test : A → Bool) (class : A → ℕ) (k : ℕ) �
     list_any test (filter (λ y. class y == k) ys) ≡ false → list_any test ys ≡ false
 none_by_class test class k stays [] none = refl
 none_by_class test class k stays (y ∷ ys) none =
-    elim (class y == k) as (λ b. (class y == k) ≡ b → list_any test (cond b (y ∷ filter (λ z. class z == k) ys) (filter (λ z. class z == k) ys)) ≡ false →
+    elim (class y == k) as (λ b. (class y == k) ≡ b →
+        list_any test (cond b (y ∷ filter (λ z. class z == k) ys) (filter (λ z. class z == k) ys)) ≡ false →
     (test y || list_any test ys) ≡ false) [
       | true ↦ λ same fails.
           let parts = or_parts (test y) (list_any test (filter (λ z. class z == k) ys)) fails in
@@ -153,7 +156,8 @@ are_apart-where {A} inside test (x ∷ xs) all apart =
         or_from (test x y) (list_any (test x) ys) (subst (λ b. (b && test x y) ≡ false) first.0 rest.0) (none ys first.1 rest.1)
 
 -- distinct numbers that are all inside have distinct images, where the images of two inside differ
-pub is_distinct-map_where : (inside : ℕ → Bool) (f : ℕ → ℕ) → ((x y : ℕ) → inside x ≡ true → inside y ≡ true → f x ≡ f y → x ≡ y) →
+pub is_distinct-map_where : (inside : ℕ → Bool) (f : ℕ → ℕ) →
+    ((x y : ℕ) → inside x ≡ true → inside y ≡ true → f x ≡ f y → x ≡ y) →
     (xs : List ℕ) → list_all inside xs ≡ true → is_distinct xs ≡ true → is_distinct (map f xs) ≡ true
 is_distinct-map_where inside f differ xs all distinct =
     is_distinct-map f xs

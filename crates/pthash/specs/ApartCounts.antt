@@ -25,8 +25,8 @@ pub count_by-push : {A : Type 0} (test : A → Bool) (xs : List A) (x : A) → c
 count_by-push {A} test xs x = sum_by_push (λ (y : A). one_if (test y)) xs x
 
 -- elements that each pass one of two tests, and never both
-pub count_by-either : {A : Type 0} (test first second : A → Bool) → ((x : A) → one_if (test x) ≡ one_if (first x) + one_if (second x)) → (xs : List A) →
-    count_by test xs ≡ count_by first xs + count_by second xs
+pub count_by-either : {A : Type 0} (test first second : A → Bool) → ((x : A) → one_if (test x) ≡ one_if (first x) + one_if (second x)) →
+    (xs : List A) → count_by test xs ≡ count_by first xs + count_by second xs
 count_by-either test first second split [] = refl
 count_by-either test first second split (x ∷ xs) =
     let rest : count_by test xs ≡ count_by first xs + count_by second xs = count_by-either test first second split xs in
@@ -43,7 +43,8 @@ count_by-map test f (x ∷ xs) =
 pub count_by-filter : {A : Type 0} (test inside : A → Bool) (xs : List A) → count_by test (filter inside xs) ≡ count_by (λ x. inside x && test x) xs
 count_by-filter test inside [] = refl
 count_by-filter test inside (x ∷ xs) =
-    elim (inside x) as (λ b. count_by test (cond b (x ∷ filter inside xs) (filter inside xs)) ≡ one_if (b && test x) + count_by (λ y. inside y && test y) xs) [
+    elim (inside x) as (λ b. count_by test (cond b (x ∷ filter inside xs) (filter inside xs)) ≡
+        one_if (b && test x) + count_by (λ y. inside y && test y) xs) [
       | true ↦ count_by-cons test x (filter inside xs) ∙ ap (λ n. one_if (test x) + n) (count_by-filter test inside xs)
       | false ↦ count_by-filter test inside xs ∙ omega arith
     ]

@@ -1,5 +1,6 @@
 -- Lists of numbers in which none comes twice.
-use Rattle.std.specs.Prelude.{◌≡◌, ◌≢◌, ℕ, zero, suc, ◌<◌, Bool, true, false, cond, not, ◌||◌, ◌==◌, List, [], ◌∷◌, ◌++◌, length, filter, slice_index}
+use Rattle.std.specs.Prelude.{◌≡◌, ◌≢◌, ℕ, zero, suc, ◌<◌, Bool, true, false, cond}
+use Rattle.std.specs.Prelude.{not, ◌||◌, ◌==◌, List, [], ◌∷◌, ◌++◌, length, filter, slice_index}
 use Rattle.std.specs.List.{list_all}
 use Rattle.std.proofs.Common.{refl, sym, ap, ◌∙◌, arith}
 use Rattle.std.proofs.Math.Bool.{or-true}
@@ -49,7 +50,8 @@ among_more y ys x among =
 pub is_among-filter : (test : ℕ → Bool) (xs : List ℕ) (x : ℕ) → is_among (filter test xs) x ≡ true → (is_among xs x ≡ true) × (test x ≡ true)
 is_among-filter test [] x among = absurd cc
 is_among-filter test (y ∷ ys) x among =
-    elim (test y) as (λ b. test y ≡ b → is_among (cond b (y ∷ filter test ys) (filter test ys)) x ≡ true → (is_among (y ∷ ys) x ≡ true) × (test x ≡ true)) [
+    elim (test y) as (λ b. test y ≡ b → is_among (cond b (y ∷ filter test ys) (filter test ys)) x ≡ true →
+        (is_among (y ∷ ys) x ≡ true) × (test x ≡ true)) [
       | true ↦ λ passes kept.
           elim (y == x) as (λ b. (y == x) ≡ b → (b || is_among (filter test ys) x) ≡ true → ((b || is_among ys x) ≡ true) × (test x ≡ true)) [
             | true ↦ λ same rest. (refl, ap test (sym (eqb-true y x same)) ∙ passes)
@@ -61,7 +63,8 @@ is_among-filter test (y ∷ ys) x among =
     ] refl among
 
 -- what is there and passes the test passes the filter
-pub is_among-filter_from : (test : ℕ → Bool) (xs : List ℕ) (x : ℕ) → is_among xs x ≡ true → test x ≡ true → is_among (filter test xs) x ≡ true
+pub is_among-filter_from : (test : ℕ → Bool) (xs : List ℕ) (x : ℕ) → is_among xs x ≡ true → test x ≡ true →
+    is_among (filter test xs) x ≡ true
 is_among-filter_from test [] x among passes = absurd cc
 is_among-filter_from test (y ∷ ys) x among passes =
     elim (y == x) as (λ b. (y == x) ≡ b → (b || is_among ys x) ≡ true → is_among (filter test (y ∷ ys)) x ≡ true) [
@@ -121,7 +124,8 @@ pub is_among-numbers_below : (n k : ℕ) → is_among (numbers_below n) k ≡ tr
 unfolding numbers_below
 is_among-numbers_below zero k among = absurd cc
 is_among-numbers_below (suc n) k among =
-    let either : (is_among (numbers_below n) k || is_among (n ∷ []) k) ≡ true = sym (list_any-append (λ y. y == k) (numbers_below n) (n ∷ [])) ∙ among in
+    let either : (is_among (numbers_below n) k || is_among (n ∷ []) k) ≡ true =
+        sym (list_any-append (λ y. y == k) (numbers_below n) (n ∷ [])) ∙ among in
     elim (is_among (numbers_below n) k) as (λ b. is_among (numbers_below n) k ≡ b → (b || is_among (n ∷ []) k) ≡ true → k < suc n) [
       | true ↦ λ lower rest. let below = is_among-numbers_below n k lower in omega arith
       | false ↦ λ other rest. elim (n == k) as (λ b. (n == k) ≡ b → (b || false) ≡ true → k < suc n) [

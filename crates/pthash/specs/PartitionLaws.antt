@@ -27,14 +27,16 @@ partition_at records parts q below =
     ∙ ap held (get_or-numbers_below parts q below)
 
 -- each record has a partition
-pub All-partition_of-lt : (records : List Record) (parts : ℕ) → 1 ≤ parts → All HashesFit records → All (λ r. partition_of r.a r.b parts < parts) records
+pub All-partition_of-lt : (records : List Record) (parts : ℕ) → 1 ≤ parts → All HashesFit records →
+    All (λ r. partition_of r.a r.b parts < parts) records
 All-partition_of-lt records parts some fit i d within =
     let r = get_or records i d in
     let fits : HashesFit r = fit i d within in
     partition_of-lt r.a r.b parts fits.a fits.b some
 
 -- the partitions have all records
-pub partitions_add_up : (records : List Record) (parts : ℕ) → 1 ≤ parts → All HashesFit records → sum_by length (partitions_of records parts) ≡ length records
+pub partitions_add_up : (records : List Record) (parts : ℕ) → 1 ≤ parts → All HashesFit records →
+    sum_by length (partitions_of records parts) ≡ length records
 unfolding partitions_of
 partitions_add_up records parts some fit =
     sum_by-map length (λ part. filter (λ r. partition_of r.a r.b parts == part) records) (numbers_below parts)

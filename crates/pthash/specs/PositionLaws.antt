@@ -29,7 +29,8 @@ kept_other test n q other =
     elim (test n) as (λ b. list_any (λ y. nat_eq y q) (cond b (n ∷ []) []) ≡ false) [ true ↦ rw (ne_eqb n q other) refl | false ↦ refl ]
 
 -- one more number below the size
-one_more : (test : ℕ → Bool) (n q : ℕ) → ((nat_lt q n && test q) || list_any (λ y. nat_eq y q) (filter test (n ∷ []))) ≡ (nat_lt q (suc n) && test q)
+one_more : (test : ℕ → Bool) (n q : ℕ) →
+    ((nat_lt q n && test q) || list_any (λ y. nat_eq y q) (filter test (n ∷ []))) ≡ (nat_lt q (suc n) && test q)
 one_more test n q =
     ⊎_elim
     (λ (same : n ≡ q).
@@ -67,7 +68,8 @@ pub contains-insert_nat : (s : Positions) (p q : ℕ) → contains (insert s p) 
 contains-insert_nat s p q = contains-insert nat_cmp_total s p q ∙ ap (λ b. b || contains s q) (unsigned_tied q p)
 
 -- the positions of members are in the table
-pub positions_below : (seed size : ℕ) (members : List ℕ) (k : ℕ) → 1 ≤ size → list_all (λ p. nat_lt p size) (positions_of seed size members k) ≡ true
+pub positions_below : (seed size : ℕ) (members : List ℕ) (k : ℕ) → 1 ≤ size →
+    list_all (λ p. nat_lt p size) (positions_of seed size members k) ≡ true
 positions_below seed size [] k room = refl
 positions_below seed size (b ∷ bs) k room =
     and_from (nat_lt (position_of seed size k b) size) (list_all (λ p. nat_lt p size) (positions_of seed size bs k))

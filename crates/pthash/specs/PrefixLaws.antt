@@ -94,21 +94,22 @@ prefix_of-earlier plan t (suc u) later ends before =
     (cases_lt t (suc u))
 
 -- the earlier state is the one that is known to stand there
-same_state : (plan : SearchPlan) (t : ℕ) (state later : SearchState) (earlier : IsEarlier plan t later) → prefix_of plan t ≡ Ok state → earlier.state ≡ state
+same_state : (plan : SearchPlan) (t : ℕ) (state later : SearchState) (earlier : IsEarlier plan t later) → prefix_of plan t ≡ Ok state →
+    earlier.state ≡ state
 same_state plan t state later earlier ends =
     let here : prefix_of plan t ≡ Ok earlier.state = earlier.ends in
     cc
 
 -- the pilots of a prefix of the search are a front of those of each longer prefix
-pub prefix_of-pilots : (plan : SearchPlan) (t u : ℕ) (state later : SearchState) → prefix_of plan t ≡ Ok state → prefix_of plan u ≡ Ok later → t ≤ u →
-    state.pilots ≡ take t later.pilots
+pub prefix_of-pilots : (plan : SearchPlan) (t u : ℕ) (state later : SearchState) → prefix_of plan t ≡ Ok state → prefix_of plan u ≡ Ok later →
+    t ≤ u → state.pilots ≡ take t later.pilots
 prefix_of-pilots plan t u state later ends further before =
     let earlier : IsEarlier plan t later = prefix_of-earlier plan t u later further before in
     ap (λ s. s.pilots) (sym (same_state plan t state later earlier ends)) ∙ earlier.pilots
 
 -- what a prefix of the search has taken, each longer prefix has too
-pub prefix_of-taken : (plan : SearchPlan) (t u : ℕ) (state later : SearchState) → prefix_of plan t ≡ Ok state → prefix_of plan u ≡ Ok later → t ≤ u →
-    TakesMore (contains state.taken) (contains later.taken)
+pub prefix_of-taken : (plan : SearchPlan) (t u : ℕ) (state later : SearchState) → prefix_of plan t ≡ Ok state → prefix_of plan u ≡ Ok later →
+    t ≤ u → TakesMore (contains state.taken) (contains later.taken)
 prefix_of-taken plan t u state later ends further before =
     let earlier : IsEarlier plan t later = prefix_of-earlier plan t u later further before in
     subst (λ (s : SearchState). TakesMore (contains s.taken) (contains later.taken)) (same_state plan t state later earlier ends) earlier.taken
@@ -137,7 +138,8 @@ length-first_positions plan pilots (suc t) =
     (λ (within : t < length plan.buckets).
     let more : member_count (take (t + 1) plan.buckets) ≡ member_count (take t plan.buckets) + length (bucket_at plan.buckets t).members =
     sum_by_more (λ (bucket : Bucket). length bucket.members) plan.buckets t none within in
-    let next : member_count (take (t + 1) plan.buckets) ≡ member_count (take (suc t) plan.buckets) = ap (λ n. member_count (take n plan.buckets)) (add-one t) in
+    let next : member_count (take (t + 1) plan.buckets) ≡ member_count (take (suc t) plan.buckets) =
+        ap (λ n. member_count (take n plan.buckets)) (add-one t) in
     omega arith)
     (λ (past : length plan.buckets ≤ t).
     let empty_one : bucket_at plan.buckets t ≡ none = get_or_past plan.buckets t none past in
@@ -149,7 +151,8 @@ length-first_positions plan pilots (suc t) =
     (cases_lt t (length plan.buckets))
 
 -- what a search has taken are the positions of its buckets
-pub taken_is : (plan : SearchPlan) (t : ℕ) (state : SearchState) → IsReached plan t state → state.taken ≡ from_list (first_positions plan state.pilots t)
+pub taken_is : (plan : SearchPlan) (t : ℕ) (state : SearchState) → IsReached plan t state →
+    state.taken ≡ from_list (first_positions plan state.pilots t)
 taken_is plan t state reached =
     same_set nat_cmp_total nat_cmp-IsAntisymmetric state.taken (from_list (first_positions plan state.pilots t))
     (λ p. reached.taken_are_theirs p ∙ sym (contains-from_list_nat (first_positions plan state.pilots t) p))

@@ -15,7 +15,8 @@ plan_of last = record {
   seed = SEED_OF_ZERO;
   size = 5;
   limit = 1;
-  buckets = order_of (record { a = 0; b = 0; ordinal = 0 } ∷ record { a = 2; b = 1; ordinal = 1 } ∷ record { a = 1; b = last; ordinal = 2 } ∷ []) Skewed 7;
+  buckets =
+      order_of (record { a = 0; b = 0; ordinal = 0 } ∷ record { a = 2; b = 1; ordinal = 1 } ∷ record { a = 1; b = last; ordinal = 2 } ∷ []) Skewed 7;
 }
 
 -- both buckets take pilot 0

@@ -1,6 +1,7 @@
 -- What the search gives, in words of its own: distinct positions in the table, and for each bucket the least pilot that fits what
 -- the earlier buckets left.
-use Rattle.std.specs.Prelude.{◌≡◌, ℕ, zero, suc, ◌-◌, ◌<◌, ◌≤◌, ◌%◌, ◌==◌, Bool, true, false, not, ◌||◌, nat_lt, bit_xor, ◌⊎◌}
+use Rattle.std.specs.Prelude.{◌≡◌, ℕ, zero, suc, ◌-◌, ◌<◌, ◌≤◌, ◌%◌, ◌==◌}
+use Rattle.std.specs.Prelude.{Bool, true, false, not, ◌||◌, nat_lt, bit_xor, ◌⊎◌}
 use Rattle.std.specs.Prelude.{List, [], ◌∷◌, ◌++◌, length, slice_index, Option, Some, None, Result, Ok, Err}
 use Rattle.std.specs.List.{list_all}
 use Rattle.std.specs.Cmp.{nat_cmp_total}
@@ -205,7 +206,8 @@ one_more_reached plan t k state room reached least =
     record {
       one_pilot_a_rank = length-append state.pilots (k ∷ []) ∙ omega (arith, reached.one_pilot_a_rank);
       taken_are_theirs = λ p. rw (earlier, pilot)
-          (contains-positions state.taken new p ∙ ap (λ b. b || is_among new p) (reached.taken_are_theirs p) ∙ sym (list_any-append (λ y. y == p) before new));
+          (contains-positions state.taken new p ∙ ap (λ b. b || is_among new p) (reached.taken_are_theirs p)
+              ∙ sym (list_any-append (λ y. y == p) before new));
       distinct = rw (earlier, pilot) (is_distinct-append before new reached.distinct theirs.passes);
       in_the_table = rw (earlier, pilot)
           (list_all-append (λ p. nat_lt p plan.size) before new
@@ -265,7 +267,8 @@ stuck_stays plan t rank (suc n) stuck later =
     (cases_lt t (suc n))
 
 -- a finished search has distinct positions in the table, and each pilot is the least that fits what the earlier buckets left
-pub finished_search : (plan : SearchPlan) (state : SearchState) → 1 ≤ plan.size → search_of plan ≡ Ok state → IsReached plan (length plan.buckets) state
+pub finished_search : (plan : SearchPlan) (state : SearchState) → 1 ≤ plan.size → search_of plan ≡ Ok state →
+    IsReached plan (length plan.buckets) state
 finished_search plan state room ends = prefix_of-ok plan (length plan.buckets) state room ends
 
 -- a stuck search reached a bucket that has no pilot

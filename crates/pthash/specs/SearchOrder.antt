@@ -16,7 +16,8 @@ use Rattle.pthash.specs.ApartCounts.{filter_has_some}
 use Rattle.pthash.specs.SearchPositions.{numbers_of, AreBucketsOf}
 
 -- a bucket at a rank is one of the buckets
-among_numbers : (buckets : List Bucket) (rank k : ℕ) → rank < length buckets → (bucket_at buckets rank).number ≡ k → is_among (numbers_of buckets) k ≡ true
+among_numbers : (buckets : List Bucket) (rank k : ℕ) → rank < length buckets → (bucket_at buckets rank).number ≡ k →
+    is_among (numbers_of buckets) k ≡ true
 among_numbers buckets rank k within is =
     let here : slice_index_or (numbers_of buckets) rank 0 ≡ (bucket_at buckets rank).number =
     get_or-map (λ (b : Bucket). b.number) buckets rank (record { number = 0; members = [] }) 0 within in

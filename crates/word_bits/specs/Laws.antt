@@ -1,5 +1,6 @@
 -- What setting one bit does to that bit and to the others.
-use Rattle.std.proofs.Common.{◌≡◌, ◌≢◌, ℕ, ◌+◌, ◌*◌, ◌/◌, ◌%◌, ◌^◌, ◌<◌, max, true, List, length, get_or, set, eqb, refl, ap, ◌∙◌, inl, inr, arith}
+use Rattle.std.proofs.Common.{◌≡◌, ◌≢◌, ℕ, ◌+◌, ◌*◌, ◌/◌, ◌%◌, ◌^◌, ◌<◌, max, true}
+use Rattle.std.proofs.Common.{List, length, get_or, set, eqb, refl, ap, ◌∙◌, inl, inr, arith}
 use Rattle.std.specs.Int.{bit_at}
 use Rattle.std.specs.Prelude.{bit_or}
 use Rattle.std.proofs.lemmas.Bool.{cases_eq, cases_lt}
@@ -23,7 +24,8 @@ is_set-set_same words first q lt =
     rw (get_or-set_same words (first + q / 64) (bit_or word (2 ^ (q % 64))) 0 lt, or_same word (q % 64)) refl
 
 -- another bit of the same word
-same_word : (words : List ℕ) (w i k : ℕ) → i ≢ k → bit_at (get_or (set words w (bit_or (get_or words w 0) (2 ^ k))) w 0) i ≡ bit_at (get_or words w 0) i
+same_word : (words : List ℕ) (w i k : ℕ) → i ≢ k →
+    bit_at (get_or (set words w (bit_or (get_or words w 0) (2 ^ k))) w 0) i ≡ bit_at (get_or words w 0) i
 same_word words w i k ne =
     elim (cases_lt w (length words)) [
       | inl lt ↦ rw (get_or-set_same words w (bit_or (get_or words w 0) (2 ^ k)) 0 lt) (or_other (get_or words w 0) k i ne)
