@@ -77,7 +77,7 @@ parts_between-cons rules seed lists from to some within =
     ap (λ n. parts_from rules seed from (take n (drop from lists))) count
     ∙ ap (λ rs. parts_from rules seed from (take (suc (to - (from + 1))) rs)) (drop-cons lists from [] (omega arith))
     ∙ ap (λ k. before_parts from (part_of rules seed (slice_index_or lists from []))
-        (parts_from rules seed (from + 1) (take (to - (from + 1)) (drop k lists)))) next
+    (parts_from rules seed (from + 1) (take (to - (from + 1)) (drop k lists)))) next
 
 -- two ranges one after the other
 pub parts_between-joined : (rules : Rules) (seed : ℕ) (lists : List (List Record)) (from middle to : ℕ) → from ≤ middle → middle ≤ to →

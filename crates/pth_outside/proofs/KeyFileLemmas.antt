@@ -147,7 +147,7 @@ so_far_more name line told told' r r' keys keys' so_far same named counted step 
     let S : Option FileMap → Type 0 = λ t. IsInStep r t → IsInStep r' t in
     let G : Option FileMap → Type 0 = λ t. IsInStep r t → ForSome (contents t r.name) (λ bytes. lines_left r bytes ≡ line ∷ lines_left r' bytes) in
     let here : (bytes : List ℕ) → contents told name ≡ Some bytes → contents told r.name ≡ Some bytes =
-        λ bytes is. ap (contents told) so_far.named ∙ is in
+    λ bytes is. ap (contents told) so_far.named ∙ is in
     record {
       named = named ∙ so_far.named;
       counted = omega (arith, counted, so_far.counted, ap length pushed, length-append keys (line ∷ []));

@@ -58,7 +58,7 @@ cut_at_feed rest ahead k is first =
     let next : suc k ≡ k + 1 = omega arith in
     let front : take k rest ≡ take k ahead = sym (ap (take k) is ∙ take-take k (length ahead) rest below) in
     let byte : get_or rest k 0 ≡ LINE_FEED =
-        sym (get_or-take (length ahead) rest k 0 in_ahead) ∙ ap (λ (x : List ℕ). get_or x k 0) (sym is) ∙ first.feed in
+    sym (get_or-take (length ahead) rest k 0 in_ahead) ∙ ap (λ (x : List ℕ). get_or x k 0) (sym is) ∙ first.feed in
     sym (take-append-drop k rest) ∙ ap (λ (x : List ℕ). x ++ drop k rest) front
     ∙ ap (λ (x : List ℕ). take k ahead ++ x) (drop-cons rest k 0 in_rest
     ∙ ap (λ (b : ℕ). b ∷ drop (suc k) rest) byte ∙ ap (λ (n : ℕ). LINE_FEED ∷ drop n rest) next)
@@ -111,7 +111,7 @@ pub next_long : (rest ahead : List ℕ) → ahead ≡ take (length ahead) rest �
 unfolding keys_of
 next_long rest ahead is stuck =
     let whole : ahead ++ drop (length ahead) rest ≡ rest =
-        ap (λ (x : List ℕ). x ++ drop (length ahead) rest) is ∙ take-append-drop (length ahead) rest in
+    ap (λ (x : List ℕ). x ++ drop (length ahead) rest) is ∙ take-append-drop (length ahead) rest in
     let part = long_split ahead (drop (length ahead) rest) (λ k within. false_from_ne_true _ (stuck.none k (omega arith) within)) in
     let long : LONGEST_KEY < length part.0 = omega (arith, part.3, stuck.full) in
     subst (λ (x : List ℕ). HasLongFirst (without_empty_last (slice_split is_feed x))) whole

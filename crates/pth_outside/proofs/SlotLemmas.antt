@@ -139,7 +139,7 @@ pub appended_absent : (files : FileMap) (name piece : List ℕ) → map.get file
     appended name piece files ≡ files
 appended_absent files name piece none =
     put_same files name (option_map (λ bytes. bytes ++ piece) (map.get files name))
-        (none ∙ ap (option_map (λ (bytes : List ℕ). bytes ++ piece)) (sym none))
+    (none ∙ ap (option_map (λ (bytes : List ℕ). bytes ++ piece)) (sym none))
 
 -- what a clause says of an error
 pub on_err : {T E P : Type 0} (r : Result T E) → P → OnErr r P

@@ -97,7 +97,7 @@ none_by_class : {A : Type 0} (test : A → Bool) (class : A → ℕ) (k : ℕ) �
 none_by_class test class k stays [] none = refl
 none_by_class test class k stays (y ∷ ys) none =
     elim (class y == k) as (λ b. (class y == k) ≡ b →
-        list_any test (cond b (y ∷ filter (λ z. class z == k) ys) (filter (λ z. class z == k) ys)) ≡ false →
+    list_any test (cond b (y ∷ filter (λ z. class z == k) ys) (filter (λ z. class z == k) ys)) ≡ false →
     (test y || list_any test ys) ≡ false) [
       | true ↦ λ same fails.
           let parts = or_parts (test y) (list_any test (filter (λ z. class z == k) ys)) fails in

@@ -44,7 +44,7 @@ pub count_by-filter : {A : Type 0} (test inside : A → Bool) (xs : List A) → 
 count_by-filter test inside [] = refl
 count_by-filter test inside (x ∷ xs) =
     elim (inside x) as (λ b. count_by test (cond b (x ∷ filter inside xs) (filter inside xs)) ≡
-        one_if (b && test x) + count_by (λ y. inside y && test y) xs) [
+    one_if (b && test x) + count_by (λ y. inside y && test y) xs) [
       | true ↦ count_by-cons test x (filter inside xs) ∙ ap (λ n. one_if (test x) + n) (count_by-filter test inside xs)
       | false ↦ count_by-filter test inside xs ∙ omega arith
     ]

@@ -51,7 +51,7 @@ pub is_among-filter : (test : ℕ → Bool) (xs : List ℕ) (x : ℕ) → is_amo
 is_among-filter test [] x among = absurd cc
 is_among-filter test (y ∷ ys) x among =
     elim (test y) as (λ b. test y ≡ b → is_among (cond b (y ∷ filter test ys) (filter test ys)) x ≡ true →
-        (is_among (y ∷ ys) x ≡ true) × (test x ≡ true)) [
+    (is_among (y ∷ ys) x ≡ true) × (test x ≡ true)) [
       | true ↦ λ passes kept.
           elim (y == x) as (λ b. (y == x) ≡ b → (b || is_among (filter test ys) x) ≡ true → ((b || is_among ys x) ≡ true) × (test x ≡ true)) [
             | true ↦ λ same rest. (refl, ap test (sym (eqb-true y x same)) ∙ passes)
@@ -125,7 +125,7 @@ unfolding numbers_below
 is_among-numbers_below zero k among = absurd cc
 is_among-numbers_below (suc n) k among =
     let either : (is_among (numbers_below n) k || is_among (n ∷ []) k) ≡ true =
-        sym (list_any-append (λ y. y == k) (numbers_below n) (n ∷ [])) ∙ among in
+    sym (list_any-append (λ y. y == k) (numbers_below n) (n ∷ [])) ∙ among in
     elim (is_among (numbers_below n) k) as (λ b. is_among (numbers_below n) k ≡ b → (b || is_among (n ∷ []) k) ≡ true → k < suc n) [
       | true ↦ λ lower rest. let below = is_among-numbers_below n k lower in omega arith
       | false ↦ λ other rest. elim (n == k) as (λ b. (n == k) ≡ b → (b || false) ≡ true → k < suc n) [

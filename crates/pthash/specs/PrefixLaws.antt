@@ -139,7 +139,7 @@ length-first_positions plan pilots (suc t) =
     let more : member_count (take (t + 1) plan.buckets) ≡ member_count (take t plan.buckets) + length (bucket_at plan.buckets t).members =
     sum_by_more (λ (bucket : Bucket). length bucket.members) plan.buckets t none within in
     let next : member_count (take (t + 1) plan.buckets) ≡ member_count (take (suc t) plan.buckets) =
-        ap (λ n. member_count (take n plan.buckets)) (add-one t) in
+    ap (λ n. member_count (take n plan.buckets)) (add-one t) in
     omega arith)
     (λ (past : length plan.buckets ≤ t).
     let empty_one : bucket_at plan.buckets t ≡ none = get_or_past plan.buckets t none past in

@@ -207,7 +207,7 @@ one_more_reached plan t k state room reached least =
       one_pilot_a_rank = length-append state.pilots (k ∷ []) ∙ omega (arith, reached.one_pilot_a_rank);
       taken_are_theirs = λ p. rw (earlier, pilot)
           (contains-positions state.taken new p ∙ ap (λ b. b || is_among new p) (reached.taken_are_theirs p)
-              ∙ sym (list_any-append (λ y. y == p) before new));
+          ∙ sym (list_any-append (λ y. y == p) before new));
       distinct = rw (earlier, pilot) (is_distinct-append before new reached.distinct theirs.passes);
       in_the_table = rw (earlier, pilot)
           (list_all-append (λ p. nat_lt p plan.size) before new
