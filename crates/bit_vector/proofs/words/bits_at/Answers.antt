@@ -1,4 +1,4 @@
-use Rattle.std.proofs.Common.{◌≡◌, ℕ, ◌+◌, ◌-◌, ◌*◌, ◌/◌, ◌%◌, ◌^◌, refl, ap, ◌∙◌, arith}
+use Rattle.std.proofs.Common.{ℕ, ◌%◌, ◌^◌, refl, ap, ◌∙◌, arith}
 use Rattle.bit_vector.proofs.ReadLemmas.{bits_joined}
 use Rattle.bit_vector.proofs.words.bits_at.Goals as goal
 

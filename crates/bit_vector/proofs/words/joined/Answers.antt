@@ -1,4 +1,4 @@
-use Rattle.std.proofs.Common.{◌≡◌, ℕ, ◌/◌, ◌^◌, ap}
+use Rattle.std.proofs.Common.{ℕ, ◌/◌, ◌^◌, ap}
 use Rattle.std.specs.Prelude.{bit_or}
 use Rattle.bit_vector.proofs.ReadLemmas.{shl_twice}
 use Rattle.bit_vector.proofs.words.joined.Goals as goal

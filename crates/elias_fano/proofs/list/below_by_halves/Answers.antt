@@ -1,5 +1,4 @@
-use Rattle.std.proofs.Common.{◌≡◌, ℕ, ◌+◌, ◌-◌, ◌/◌, ◌<◌, List, length, get_or, Some, sym, ◌∙◌, arith}
-use Rattle.std.specs.List.{slice_get}
+use Rattle.std.proofs.Common.{◌+◌, ◌-◌, ◌/◌, ◌<◌, length, sym, ◌∙◌, arith}
 use Rattle.elias_fano.proofs.ValueLemmas.{slice_get-some, found_is, below_len-le, below_len-gt, below_len-most}
 use Rattle.elias_fano.proofs.list.below_by_halves.Goals as goal
 

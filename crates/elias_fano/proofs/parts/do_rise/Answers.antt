@@ -1,13 +1,12 @@
-use Rattle.std.proofs.Common.{◌≡◌, ℕ, ◌+◌, ◌-◌, ◌*◌, ◌^◌, ◌<◌, Bool, List, length, take, drop, get_or, Some, sym, ap, subst}
-use Rattle.std.proofs.Common.{◌∙◌, arith}
+use Rattle.std.proofs.Common.{ℕ, ◌+◌, ◌*◌, ◌^◌, List, sym, ap, subst, ◌∙◌, arith}
 use Rattle.std.specs.Prelude.{IsSome}
 use Rattle.std.specs.List.{slice_get}
 use Rattle.std.proofs.lemmas.List.{drop_all}
-use Rattle.bit_vector.specs.Bits.{number_of, ones, places}
+use Rattle.bit_vector.specs.Bits.{places}
 use Rattle.elias_fano.specs.Spelling.{rises}
-use Rattle.elias_fano.specs.Values.{values_of, AreParts}
-use Rattle.elias_fano.proofs.ValueLemmas.{rises-nil, rises-drop_yes, rises-drop_no, parts-lt, parts-le, low-lt}
-use Rattle.elias_fano.proofs.PartLemmas.{IsPart, has_place, part_is, value_is, high-most}
+use Rattle.elias_fano.specs.Values.{values_of}
+use Rattle.elias_fano.proofs.ValueLemmas.{rises-nil, rises-drop_yes, rises-drop_no, parts-lt, parts-le}
+use Rattle.elias_fano.proofs.PartLemmas.{has_place, part_is, value_is, high-most}
 use Rattle.elias_fano.proofs.TextLemmas.{values-length}
 use Rattle.elias_fano.proofs.parts.do_rise.Goals as goal
 

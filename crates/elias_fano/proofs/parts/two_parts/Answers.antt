@@ -1,9 +1,8 @@
-use Rattle.std.proofs.Common.{◌≡◌, ℕ, ◌+◌, ◌-◌, ◌*◌, ◌^◌, ◌<◌, Bool, List, length, take, drop, get_or, Some, sym, ap, subst}
-use Rattle.std.proofs.Common.{◌∙◌, arith}
+use Rattle.std.proofs.Common.{◌≡◌, ℕ, ◌+◌, ◌*◌, ◌^◌, ◌<◌, Bool, List, take, drop, Some, sym, ap, subst, ◌∙◌, arith}
 use Rattle.std.specs.Prelude.{IsSome}
 use Rattle.std.specs.List.{slice_get}
-use Rattle.bit_vector.specs.Bits.{number_of, ones, places}
-use Rattle.elias_fano.specs.Values.{values_of, AreParts}
+use Rattle.bit_vector.specs.Bits.{ones, places}
+use Rattle.elias_fano.specs.Values.{AreParts}
 use Rattle.elias_fano.proofs.ValueLemmas.{low-lt}
 use Rattle.elias_fano.proofs.PartLemmas.{IsPart, has_place, part_is, value_is, high-most}
 use Rattle.elias_fano.proofs.parts.two_parts.Goals as goal

@@ -1,6 +1,4 @@
-use Rattle.std.proofs.Common.{◌≡◌, ℕ, ◌+◌, ◌<◌, ◌≤◌, List, length, get_or, Some, sym, ◌∙◌, arith}
-use Rattle.std.specs.List.{slice_get}
-use Rattle.elias_fano.specs.Values.{below_len}
+use Rattle.std.proofs.Common.{◌<◌, length, sym, ◌∙◌, arith}
 use Rattle.elias_fano.proofs.CallerLemmas.{slice_get-some, found_is, below_len-le, below_len-most}
 use Rattle.pilot_codecs.specs.Values.{values_of}
 use Rattle.pilot_codecs.proofs.BelowLemmas.{below_more}
