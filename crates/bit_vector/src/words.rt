@@ -29,14 +29,14 @@ pub fn bits_at(words: &[u64], at: usize, width: u32) -> u64
         return 0;
     }
     let first = at / 64;
-    let shift = (at % 64) as u32;
+    let shift = at % 64;
     // The word of the last bit is read in any case, so that no branch depends on the place.
-    let last = first + ((shift + width - 1) / 64) as usize;
+    let last = first + (shift + width as usize - 1) / 64;
     low_bits(joined(words[first], words[last], shift), width)
 }
 
 // The bits of a word from a place on, and above them the lowest bits of another.
-fn joined(word: u64, above: u64, shift: u32) -> u64
+fn joined(word: u64, above: u64, shift: usize) -> u64
     requires { shift < 64 }
     ensures { result ≡ bit_or (word / 2 ^ shift) (above * 2 ^ (64 - shift) % 2 ^ 64) }
 {
