@@ -1,5 +1,6 @@
 -- Numbers of one width, one after the other, and packed word by word.
-use Rattle.std.proofs.Common.{◌≡◌, ℕ, ◌+◌, ◌*◌, ◌-◌, ◌/◌, ◌%◌, ◌^◌, ◌<◌, ◌≤◌, Bool, true, false, List, [], ◌∷◌, ◌++◌, length, get_or, take, refl, sym, ap}
+use Rattle.std.proofs.Common.{◌≡◌, ℕ, ◌+◌, ◌*◌, ◌-◌, ◌/◌, ◌%◌, ◌^◌, ◌<◌, ◌≤◌, Bool, true, false, List, []}
+use Rattle.std.proofs.Common.{◌∷◌, ◌++◌, length, get_or, take, refl, sym, ap}
 use Rattle.std.proofs.Common.{◌∙◌, append_assoc, subst, arith}
 use Rattle.std.specs.Prelude.{bit_or}
 use Rattle.std.proofs.Math.Nat.{pow-suc, mod-eq_of_lt, mod-add-div}
@@ -83,7 +84,8 @@ packing_none ws = record {
 
 -- the number of the bits once a value more is put behind them
 more_number : (bits : List Bool) (w v : ℕ) → v < 2 ^ w → number_of (bits ++ bits_of w v) ≡ number_of bits + 2 ^ length bits * v
-more_number bits w v lt = number_of-append bits (bits_of w v) ∙ ap (λ (q : ℕ). number_of bits + 2 ^ length bits * q) (number_of-bits_of w v ∙ mod-eq_of_lt lt)
+more_number bits w v lt = number_of-append bits (bits_of w v)
+    ∙ ap (λ (q : ℕ). number_of bits + 2 ^ length bits * q) (number_of-bits_of w v ∙ mod-eq_of_lt lt)
 
 -- and how many bits they are
 more_len : (bits : List Bool) (w v : ℕ) → length (bits ++ bits_of w v) ≡ length bits + w
@@ -94,7 +96,8 @@ place : (front bits : List Bool) (k used : ℕ) → 64 * k + used ≡ length bit
 place front bits k used e = sym (pow-add 2 (64 * k) used) ∙ ap (λ (j : ℕ). 2 ^ j) e
 
 -- a value that the rest has room for
-pub packing_within : (before ws : List ℕ) (rest used w v : ℕ) (bits new : List Bool) → IsPacking before ws rest used bits → v < 2 ^ w → used + w < 64 →
+pub packing_within : (before ws : List ℕ) (rest used w v : ℕ) (bits new : List Bool) → IsPacking before ws rest used bits → v < 2 ^ w →
+    used + w < 64 →
     bits ++ bits_of w v ≡ new →
     IsPacking before ws (bit_or rest (v * 2 ^ used % 2 ^ 64)) (used + w) new
 packing_within before ws rest used w v bits new p fits lt e =
@@ -117,9 +120,10 @@ packing_within before ws rest used w v bits new p fits lt e =
     })
 
 -- a value that fills the rest, so that a word is put behind the others
-pub packing_across : (before ws more : List ℕ) (rest used w v left used2 : ℕ) (bits new : List Bool) → IsPacking before ws rest used bits → v < 2 ^ w →
-    v < 2 ^ 64 → 64 ≤ used + w → w ≤ 64 → bits ++ bits_of w v ≡ new →
-    more ≡ ws ++ bit_or rest (v * 2 ^ used % 2 ^ 64) ∷ [] → used2 ≡ used + w - 64 → left ≡ v / 2 ^ (w - used2) → IsPacking before more left used2 new
+pub packing_across : (before ws more : List ℕ) (rest used w v left used2 : ℕ) (bits new : List Bool) → IsPacking before ws rest used bits →
+    v < 2 ^ w → v < 2 ^ 64 → 64 ≤ used + w → w ≤ 64 → bits ++ bits_of w v ≡ new →
+    more ≡ ws ++ bit_or rest (v * 2 ^ used % 2 ^ 64) ∷ [] → used2 ≡ used + w - 64 → left ≡ v / 2 ^ (w - used2) →
+    IsPacking before more left used2 new
 packing_across before ws more rest used w v left used2 bits new p fits small ge wide e m u l =
     let word = bit_or rest (v * 2 ^ used % 2 ^ 64) in
     let low = 64 - used in
@@ -129,7 +133,8 @@ packing_across before ws more rest used w v left used2 bits new p fits small ge 
     let k = length p.front in
     let longer : length (p.front ++ word ∷ []) ≡ k + 1 = length_push p.front word in
     let base : 2 ^ (64 * length (p.front ++ word ∷ [])) ≡ 2 ^ low * 2 ^ used * 2 ^ (64 * k) =
-    ap (λ (j : ℕ). 2 ^ j) (omega (arith, longer, p.below)) ∙ pow-add 2 (low + used) (64 * k) ∙ ap (λ (q : ℕ). q * 2 ^ (64 * k)) (pow-add 2 low used) in
+    ap (λ (j : ℕ). 2 ^ j) (omega (arith, longer, p.below)) ∙ pow-add 2 (low + used) (64 * k)
+    ∙ ap (λ (q : ℕ). q * 2 ^ (64 * k)) (pow-add 2 low used) in
     let high = ap (λ (q : ℕ). q * left) base in
     let high2 = ap (λ (q : ℕ). 2 ^ low * 2 ^ used * 2 ^ (64 * k) * q) left-is in
     let times = ap (λ (q : ℕ). 2 ^ (64 * k) * q) word-is in
@@ -173,12 +178,14 @@ packed_last_word before ws more rest used bits p pos e =
     let in_word : used ≤ 64 = omega (arith, p.below) in
     let most : 2 ^ used ≤ 2 ^ 64 = Rattle.std.proofs.Math.Nat.pow-le-pow_right (omega arith) in_word in
     let small : rest < 2 ^ 64 = omega (arith, p.clear, most) in
-    let whole : more ≡ before ++ (p.front ++ rest ∷ []) = e ∙ ap (λ (xs : List ℕ). xs ++ rest ∷ []) p.words_is ∙ append_assoc before p.front (rest ∷ []) in
+    let whole : more ≡ before ++ (p.front ++ rest ∷ []) = e ∙ ap (λ (xs : List ℕ). xs ++ rest ∷ []) p.words_is
+    ∙ append_assoc before p.front (rest ∷ []) in
     filled before (p.front ++ rest ∷ []) more bits whole (AreWords-push p.front rest p.fit small) (omega (arith, words_number-push p.front rest, p.number))
     (omega (arith, length_push p.front rest, p.len, p.below))
 
 -- what stood before still stands
-pub packing_kept : (before words : List ℕ) (rest used : ℕ) (bits : List Bool) → IsPacking before words rest used bits → take (length before) words ≡ before
+pub packing_kept : (before words : List ℕ) (rest used : ℕ) (bits : List Bool) → IsPacking before words rest used bits →
+    take (length before) words ≡ before
 packing_kept before words rest used bits p = ap (λ (xs : List ℕ). take (length before) xs) p.words_is ∙ take_at before p.front (length before) refl
 
 -- the words of a list of bits are packed, and they are seen as that list

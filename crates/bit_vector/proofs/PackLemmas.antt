@@ -1,5 +1,6 @@
 -- Words that hold just so many bits, and bits that are put behind them.
-use Rattle.std.proofs.Common.{◌≡◌, ℕ, zero, suc, ◌+◌, ◌*◌, ◌-◌, ◌/◌, ◌%◌, ◌^◌, ◌<◌, ◌≤◌, ◌↔◌, true, eqb, List, [], ◌∷◌, ◌++◌, length, get_or, drop, set, refl}
+use Rattle.std.proofs.Common.{◌≡◌, ℕ, zero, suc, ◌+◌, ◌*◌, ◌-◌, ◌/◌, ◌%◌, ◌^◌, ◌<◌, ◌≤◌, ◌↔◌, true, eqb, List}
+use Rattle.std.proofs.Common.{[], ◌∷◌, ◌++◌, length, get_or, drop, set, refl}
 use Rattle.std.proofs.Common.{sym, ap, ◌∙◌, subst, arith}
 use Rattle.std.specs.Prelude.{bit_or}
 use Rattle.std.proofs.Math.Nat.{lt-div-mul-add, div-eq_of_lt, mod-eq_of_lt, mod-add-div}
@@ -96,7 +97,8 @@ packed_from ws new len v width p fits count fit e =
     record { count = count; fit = fit; clear = subst (λ (m : ℕ). m < 2 ^ (len + width)) (sym e) (sum_lt (words_number ws) v len width p.clear fits) }
 
 -- bits that stay within the last word
-pub join_within : (len v width : ℕ) → len % 64 + width ≤ 64 → v < 2 ^ width → v % 2 ^ (64 - len % 64) * 2 ^ (64 * (len / 64) + len % 64) ≡ v * 2 ^ len
+pub join_within : (len v width : ℕ) → len % 64 + width ≤ 64 → v < 2 ^ width →
+    v % 2 ^ (64 - len % 64) * 2 ^ (64 * (len / 64) + len % 64) ≡ v * 2 ^ len
 join_within len v width le fits =
     let whole : 64 * (len / 64) + len % 64 ≡ len = omega arith in
     let larger : 2 ^ width ≤ 2 ^ (64 - len % 64) = Rattle.std.proofs.Math.Nat.pow-le-pow_right (omega arith) (omega arith) in
@@ -104,7 +106,8 @@ join_within len v width le fits =
 
 -- bits that go on in a new word
 pub join_across : (ws : List ℕ) (len v n : ℕ) → IsPacked ws len → 0 < len % 64 →
-    n ≡ words_number (ws ++ v / 2 ^ (64 - len % 64) ∷ []) + v % 2 ^ (64 - len % 64) * 2 ^ (64 * (len / 64) + len % 64) → n ≡ words_number ws + v * 2 ^ len
+    n ≡ words_number (ws ++ v / 2 ^ (64 - len % 64) ∷ []) + v % 2 ^ (64 - len % 64) * 2 ^
+    (64 * (len / 64) + len % 64) → n ≡ words_number ws + v * 2 ^ len
 join_across ws len v n p pos e =
     let s = len % 64 in
     let k = 64 - s in
@@ -134,7 +137,8 @@ word_lt : (x v s : ℕ) → x < 2 ^ 64 → bit_or x (v * 2 ^ s % 2 ^ 64) < 2 ^ 6
 word_lt x v s lt = or_lt 64 x (v * 2 ^ s % 2 ^ 64) lt (omega arith)
 
 -- a value behind full words is a word of its own
-pub appended_whole : (ws new : List ℕ) (len v width : ℕ) → IsPacked ws len → len % 64 ≡ 0 → 0 < width → width ≤ 64 → v < 2 ^ width → v < 2 ^ 64 →
+pub appended_whole : (ws new : List ℕ) (len v width : ℕ) → IsPacked ws len → len % 64 ≡ 0 → 0 < width → width ≤ 64 → v < 2 ^ width →
+    v < 2 ^ 64 →
     new ≡ ws ++ v ∷ [] → IsAppended ws new len v width
 appended_whole ws new len v width p even some wide fits small e =
     let number = push_whole ws len v p even in
@@ -144,7 +148,8 @@ appended_whole ws new len v width p even some wide fits small e =
     subst (λ (new : List ℕ). IsAppended ws new len v width) (sym e) whole
 
 -- a value that fits the last word is put into it
-pub appended_within : (ws : List ℕ) (len v width x : ℕ) → IsPacked ws len → 0 < len % 64 → len % 64 + width ≤ 64 → v < 2 ^ width → x ≡ get_or ws (len / 64) x →
+pub appended_within : (ws : List ℕ) (len v width x : ℕ) → IsPacked ws len → 0 < len % 64 → len % 64 + width ≤ 64 → v < 2 ^ width →
+    x ≡ get_or ws (len / 64) x →
     IsAppended ws (set ws (len / 64) (bit_or x (v * 2 ^ (len % 64) % 2 ^ 64))) len v width
 appended_within ws len v width x p pos le fits e =
     let w = len / 64 in
@@ -162,7 +167,8 @@ appended_within ws len v width x p pos le fits e =
     })
 
 -- a value that doesn't fit the last word goes on in a new one
-pub appended_across : (ws more : List ℕ) (len v width x : ℕ) → IsPacked ws len → 0 < len % 64 → 64 < len % 64 + width → width ≤ 64 → v < 2 ^ width → v < 2 ^ 64
+pub appended_across : (ws more : List ℕ) (len v width x : ℕ) → IsPacked ws len → 0 < len % 64 → 64 < len % 64 + width → width ≤ 64 →
+    v < 2 ^ width → v < 2 ^ 64
     → more ≡ ws ++ v / 2 ^ (64 - len % 64) ∷ [] → x ≡ get_or more (len / 64) x →
     IsAppended ws (set more (len / 64) (bit_or x (v * 2 ^ (len % 64) % 2 ^ 64))) len v width
 appended_across ws more len v width x p pos gt wide fits small m e =

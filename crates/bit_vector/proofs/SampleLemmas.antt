@@ -1,5 +1,6 @@
 -- Counts of ones over words, and the place of a one.
-use Rattle.std.proofs.Common.{◌≡◌, ℕ, zero, suc, ◌+◌, ◌*◌, ◌-◌, ◌/◌, ◌%◌, ◌^◌, ◌<◌, ◌≤◌, List, [], ◌∷◌, ◌++◌, Bool, length, get_or, take, drop, Option, Some}
+use Rattle.std.proofs.Common.{◌≡◌, ℕ, zero, suc, ◌+◌, ◌*◌, ◌-◌, ◌/◌, ◌%◌, ◌^◌, ◌<◌, ◌≤◌, List, [], ◌∷◌}
+use Rattle.std.proofs.Common.{◌++◌, Bool, length, get_or, take, drop, Option, Some}
 use Rattle.std.proofs.Common.{None, refl, sym, ap, ◌∙◌, subst, inl, inr, arith}
 use Rattle.std.specs.Prelude.{MatchOption, ◌⊎◌}
 use Rattle.std.specs.List.{slice_get}
@@ -53,7 +54,8 @@ AreWords-take (suc k) (w ∷ ws) h zero = h 0
 AreWords-take (suc k) (w ∷ ws) h (suc i) = AreWords-take k ws (AreWords-rest w ws h) i
 
 -- the lowest bits from a word's place on are those of the word
-word_at : (ws : List ℕ) (w s : ℕ) → AreWords ws → 64 * w + s ≤ 64 * length ws → s < 64 → words_number ws / 2 ^ (64 * w) % 2 ^ s ≡ get_or ws w 0 % 2 ^ s
+word_at : (ws : List ℕ) (w s : ℕ) → AreWords ws → 64 * w + s ≤ 64 * length ws → s < 64 →
+    words_number ws / 2 ^ (64 * w) % 2 ^ s ≡ get_or ws w 0 % 2 ^ s
 word_at ws w s h le lt =
     elim (cases_lt w (length ws)) [
       | inl within ↦ ap (λ (m : ℕ). m % 2 ^ s) (words_number-at ws w h within)
@@ -77,7 +79,8 @@ ones_below_place ws at h le =
     ap (λ (j : ℕ). count_ones (n % 2 ^ j)) whole ∙ ones_cut n s (64 * w) ∙ omega (arith, high, low)
 
 -- the place of a one among the words, from its place in its word
-pub one_among : (ws : List ℕ) (w q r i p : ℕ) → AreWords ws → w < length ws → q < 64 → IsOneAt (get_or ws w 0) r q → all_ones (take w ws) + r ≡ i →
+pub one_among : (ws : List ℕ) (w q r i p : ℕ) → AreWords ws → w < length ws → q < 64 → IsOneAt (get_or ws w 0) r q →
+    all_ones (take w ws) + r ≡ i →
     p ≡ 64 * w + q → IsOneAt (words_number ws) i p
 one_among ws w q r i p h lt less here e at =
     let word : p / 64 ≡ w = omega arith in
@@ -192,7 +195,8 @@ one_found bits i p at =
     slice_get-places_from 0 bits p i lt there (ones-take bits p (omega arith) ∙ at.before) ∙ ap Some (omega arith)
 
 -- a place that is found, or none, is what stands at that index of the places
-pub select_is : (bits : List Bool) (i : ℕ) (r : Option ℕ) → MatchOption r (all_ones (packed bits) ≤ i) (λ p. IsOneAt (words_number (packed bits)) i p) →
+pub select_is : (bits : List Bool) (i : ℕ) (r : Option ℕ) → MatchOption r (all_ones (packed bits) ≤ i)
+    (λ p. IsOneAt (words_number (packed bits)) i p) →
     r ≡ slice_get (places bits) i
 select_is bits i None h = sym (slice_get-past (places bits) i (omega (arith, length-places_from 0 bits, all_ones-packed bits, h)))
 select_is bits i (Some p) h = sym (one_found bits i p (subst (λ (n : ℕ). IsOneAt n i p) (words_number-packed bits) h))
@@ -236,7 +240,8 @@ ones_passed ws at h lt none =
     omega (arith, ones_below_place ws at h (omega arith), ap count_ones small, all_ones-more ws w lt)
 
 -- all ones are before the end
-pub ones_all : (ws : List ℕ) (at : ℕ) → AreWords ws → at ≤ 64 * length ws → length ws ≤ at / 64 → all_ones ws ≡ count_ones (words_number ws % 2 ^ at)
+pub ones_all : (ws : List ℕ) (at : ℕ) → AreWords ws → at ≤ 64 * length ws → length ws ≤ at / 64 →
+    all_ones ws ≡ count_ones (words_number ws % 2 ^ at)
 ones_all ws at h le past =
     let place : at ≡ 64 * length ws = omega arith in
     let count : at / 64 ≡ length ws = omega arith in
@@ -255,7 +260,8 @@ pub record IsPassed (rest left span half skip ones : ℕ) : Type 0 where
   pub here : left < count_ones (rest % 2 ^ (span - half + skip))
 
 -- the lower half is passed where the one is not in it
-pub half_passed : (rest left span low : ℕ) (r : ℕ × ℕ) → 1 < span → low ≡ count_ones (rest % 2 ^ (span / 2)) → left < count_ones (rest % 2 ^ span) →
+pub half_passed : (rest left span low : ℕ) (r : ℕ × ℕ) → 1 < span → low ≡ count_ones (rest % 2 ^ (span / 2)) →
+    left < count_ones (rest % 2 ^ span) →
     ((left < low) × (r ≡ (0, 0))) ⊎ ((low ≤ left) × (r ≡ (span / 2, low))) → IsPassed rest left span (span / 2) r.0 r.1
 half_passed rest left span low r some low_is here choice =
     let half = span / 2 in

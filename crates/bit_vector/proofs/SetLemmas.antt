@@ -1,5 +1,6 @@
 -- One bit that is set, and words that have none.
-use Rattle.std.proofs.Common.{◌≡◌, ℕ, zero, suc, ◌+◌, ◌*◌, ◌/◌, ◌%◌, ◌^◌, ◌<◌, ◌≤◌, Bool, true, false, cond, eqb, List, [], ◌∷◌, length, get_or, set}
+use Rattle.std.proofs.Common.{◌≡◌, ℕ, zero, suc, ◌+◌, ◌*◌, ◌/◌, ◌%◌, ◌^◌, ◌<◌, ◌≤◌, Bool, true, false, cond, eqb, List}
+use Rattle.std.proofs.Common.{[], ◌∷◌, length, get_or, set}
 use Rattle.std.proofs.Common.{replicate, refl, sym, ap, ◌∙◌, subst, inl, inr, arith}
 use Rattle.std.specs.Prelude.{bit_or}
 use Rattle.std.specs.Int.{bit_at}
@@ -69,7 +70,8 @@ pub record IsSet (ws new : List ℕ) (len at : ℕ) : Type 0 where
   pub bits : bits_of len (words_number new) ≡ set (bits_of len (words_number ws)) at true
 
 -- words with one bit set are seen as the bits with this one set
-bit_set : (ws : List ℕ) (len at : ℕ) → IsPacked ws len → at < len → IsSet ws (set ws (at / 64) (bit_or (get_or ws (at / 64) 0) (2 ^ (at % 64)))) len at
+bit_set : (ws : List ℕ) (len at : ℕ) → IsPacked ws len → at < len →
+    IsSet ws (set ws (at / 64) (bit_or (get_or ws (at / 64) 0) (2 ^ (at % 64)))) len at
 bit_set ws len at p lt =
     let k = at / 64 in
     let y = bit_or (get_or ws k 0) (2 ^ (at % 64)) in
@@ -96,7 +98,8 @@ bit_written ws len at x p lt e =
     let in_words : k < length ws = omega (arith, p.count) in
     let x-is : x ≡ get_or ws k 0 = get_or_read ws k x in_words e 0 in
     let one : 1 * 2 ^ (at % 64) % 2 ^ 64 ≡ 2 ^ (at % 64) = one_shl (at % 64) 64 (omega arith) in
-    subst (λ (m : ℕ). IsSet ws (set ws k (bit_or x m)) len at) (sym one) (subst (λ (m : ℕ). IsSet ws (set ws k (bit_or m (2 ^ (at % 64)))) len at) (sym x-is)
+    subst (λ (m : ℕ). IsSet ws (set ws k (bit_or x m)) len at) (sym one)
+    (subst (λ (m : ℕ). IsSet ws (set ws k (bit_or m (2 ^ (at % 64)))) len at) (sym x-is)
     (bit_set ws len at p lt))
 
 -- clear words spell 0

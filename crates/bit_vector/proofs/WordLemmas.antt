@@ -1,5 +1,6 @@
 -- A run of 64-bit words beside the number that it spells in base 2 ^ 64.
-use Rattle.std.proofs.Common.{◌≡◌, ℕ, zero, suc, ◌+◌, ◌*◌, ◌/◌, ◌%◌, ◌^◌, ◌<◌, List, [], ◌∷◌, ◌++◌, length, get_or, take, drop, set, refl, sym, ap, ◌∙◌, arith}
+use Rattle.std.proofs.Common.{◌≡◌, ℕ, zero, suc, ◌+◌, ◌*◌, ◌/◌, ◌%◌, ◌^◌, ◌<◌, List, [], ◌∷◌, ◌++◌, length, get_or}
+use Rattle.std.proofs.Common.{take, drop, set, refl, sym, ap, ◌∙◌, arith}
 use Rattle.std.specs.List.{sum_by}
 use Rattle.std.specs.Int.RustNames.{count_ones}
 use Rattle.std.proofs.Math.Nat.{pow-suc, div-one, mod-one}
@@ -65,7 +66,8 @@ words_number-take (suc k) (x ∷ xs) h =
     omega (arith, parts, inner, low)
 
 -- a word that is replaced changes the number by the difference at its place
-pub words_number-set : (xs : List ℕ) (k y : ℕ) → k < length xs → words_number (set xs k y) + get_or xs k 0 * 2 ^ (64 * k) ≡ words_number xs + y * 2 ^ (64 * k)
+pub words_number-set : (xs : List ℕ) (k y : ℕ) → k < length xs →
+    words_number (set xs k y) + get_or xs k 0 * 2 ^ (64 * k) ≡ words_number xs + y * 2 ^ (64 * k)
 unfolding words_number
 words_number-set [] k y lt = absurd (omega arith)
 words_number-set (x ∷ xs) zero y lt = omega arith

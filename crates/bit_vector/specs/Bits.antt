@@ -1,5 +1,6 @@
 -- A list of bits as a number, and packed into 64-bit words. The lowest bit and the lowest word come first.
-use Rattle.std.specs.Prelude.{ℕ, zero, suc, ◌≡◌, ◌+◌, ◌*◌, ◌/◌, ◌%◌, ◌^◌, ◌<◌, Bool, List, [], ◌∷◌, ◌++◌, length, ◌==◌, if◌then◌else◌, count_by, slice_index}
+use Rattle.std.specs.Prelude.{ℕ, zero, suc, ◌≡◌, ◌+◌, ◌*◌, ◌/◌, ◌%◌, ◌^◌, ◌<◌, Bool, List, [], ◌∷◌, ◌++◌, length}
+use Rattle.std.specs.Prelude.{◌==◌, if◌then◌else◌, count_by, slice_index}
 
 -- the lowest bits of a number, as many as are asked for
 unfoldable pub bits_of : ℕ → ℕ → List Bool

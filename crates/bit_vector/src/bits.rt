@@ -1,5 +1,6 @@
 // A list of bits, packed into words.
-ghost use Rattle.std.specs.Prelude.{◌≡◌, ◌+◌, ◌*◌, ◌^◌, ◌<◌, ◌≤◌, ◌++◌, ◌↔◌, List, [], Bool, true, false, length, take, drop, replicate, slice_index_or, slice_set, OnOk, OnErr, IfOk, IfSome, IsSome};
+ghost use Rattle.std.specs.Prelude.{◌≡◌, ◌+◌, ◌*◌, ◌^◌, ◌<◌, ◌≤◌, ◌++◌, ◌↔◌, List, [], Bool, true, false, length, take};
+ghost use Rattle.std.specs.Prelude.{drop, replicate, slice_index_or, slice_set, OnOk, OnErr, IfOk, IfSome, IsSome};
 ghost use Rattle.bit_vector.specs.Bits.{bits_of, bits_of_each, number_of, words_number, packed, IsPacked};
 
 use crate::words::{append, append_fields, bits_at, clear_words, is_packed};

@@ -1,5 +1,6 @@
 // Counts and places of ones, with samples that bound the walk over the words.
-ghost use Rattle.std.specs.Prelude.{◌≡◌, ℕ, ◌+◌, ◌*◌, ◌%◌, ◌^◌, ◌<◌, ◌≤◌, ◌⊎◌, length, take, slice_index, IfOk, MatchOption};
+ghost use Rattle.std.specs.Prelude.{◌≡◌, ℕ, ◌+◌, ◌*◌, ◌%◌, ◌^◌, ◌<◌, ◌≤◌, ◌⊎◌, length, take, slice_index, IfOk};
+ghost use Rattle.std.specs.Prelude.{MatchOption};
 ghost use Rattle.std.specs.Int.RustNames.{count_ones};
 ghost use Rattle.bit_vector.specs.Bits.{words_number};
 ghost use Rattle.bit_vector.specs.Samples.{all_ones, IsCounted, IsHinted, IsOneAt};

@@ -1,5 +1,7 @@
 // Bits in words: read, appended and looked at.
-ghost use Rattle.std.specs.Prelude.{◌≡◌, ◌+◌, ◌*◌, ◌-◌, ◌/◌, ◌%◌, ◌^◌, ◌<◌, ◌≤◌, ◌++◌, ◌↔◌, length, take, replicate, IfOk, IsTrue, OnOk, OnErr};
+ghost use Rattle.std.specs.Prelude.{◌≡◌, ◌+◌, ◌*◌, ◌-◌, ◌/◌, ◌%◌, ◌^◌, ◌<◌, ◌≤◌, ◌++◌, ◌↔◌, length, take};
+ghost use Rattle.std.specs.Prelude.{replicate, IfOk, IsTrue, OnOk, OnErr};
+ghost use Rattle.std.specs.Prelude.{bit_or};
 ghost use Rattle.bit_vector.specs.Bits.{words_number, bits_of_each, packed, IsPacked};
 
 use crate::bits::NoMemory;
@@ -27,13 +29,18 @@ pub fn bits_at(words: &[u64], at: usize, width: u32) -> u64
         return 0;
     }
     let first = at / 64;
-    let shift = (at % 64) as u32;
-    let low = words[first] >> shift;
-    if shift + width <= 64 {
-        low_bits(low, width)
-    } else {
-        low_bits(low | words[first + 1] << (64 - shift), width)
-    }
+    let shift = at % 64;
+    // The word of the last bit is read in any case, so that no branch depends on the place.
+    let last = first + (shift + width as usize - 1) / 64;
+    low_bits(joined(words[first], words[last], shift), width)
+}
+
+// The bits of a word from a place on, and above them the lowest bits of another.
+fn joined(word: u64, above: u64, shift: usize) -> u64
+    requires { shift < 64 }
+    ensures { result ≡ bit_or (word / 2 ^ shift) (above * 2 ^ (64 - shift) % 2 ^ 64) }
+{
+    word >> shift | above << 1 << (63 - shift)
 }
 
 /// Whether the words are just those that so many bits take, with no unused bit set.

@@ -1,5 +1,6 @@
 -- Bits that are made of a list that rises.
-use Rattle.std.proofs.Common.{◌≡◌, ℕ, zero, suc, ◌+◌, ◌*◌, ◌/◌, ◌^◌, ◌<◌, ◌≤◌, Bool, true, false, eqb, List, [], ◌∷◌, ◌++◌, length, get_or, take, set}
+use Rattle.std.proofs.Common.{◌≡◌, ℕ, zero, suc, ◌+◌, ◌*◌, ◌/◌, ◌^◌, ◌<◌, ◌≤◌, Bool, true, false, eqb, List, [], ◌∷◌}
+use Rattle.std.proofs.Common.{◌++◌, length, get_or, take, set}
 use Rattle.std.proofs.Common.{replicate, Result, Ok, Err, refl, sym, ap, ◌∙◌, inl, inr, arith}
 use Rattle.std.specs.Prelude.{OnOk, ◌||◌}
 use Rattle.std.proofs.lemmas.Bool.{cases_lt, cases_Bool, eq-eqb, ne_eqb}
@@ -51,7 +52,8 @@ marks-set at (suc n) zero ps lt =
     rw (here, among_last at ps, marks-past (at + 1) n at ps (omega arith)) refl
 marks-set at (suc n) (suc k) ps lt =
     let there : at + suc k ≡ at + 1 + k = omega arith in
-    rw (there, among_others at (at + 1 + k) ps (λ e. omega (arith, e))) (ap (λ (bs : List Bool). is_among at ps ∷ bs) (marks-set (at + 1) n k ps (omega arith)))
+    rw (there, among_others at (at + 1 + k) ps (λ e. omega (arith, e)))
+    (ap (λ (bs : List Bool). is_among at ps ∷ bs) (marks-set (at + 1) n k ps (omega arith)))
 
 -- no bit is set yet
 no_marks : (at n : ℕ) → replicate n false ≡ marks at n []
@@ -72,7 +74,8 @@ unfolding high_places
 high_first w n = no_marks 0 n
 
 -- the place of a value's one is within the high bits
-pub place_within : (w : ℕ) (vs : List ℕ) (i : ℕ) → rises 0 vs ≡ true → i < length vs → get_or vs i 0 / 2 ^ w + i < high_len (length vs) (last_of 0 vs) w
+pub place_within : (w : ℕ) (vs : List ℕ) (i : ℕ) → rises 0 vs ≡ true → i < length vs →
+    get_or vs i 0 / 2 ^ w + i < high_len (length vs) (last_of 0 vs) w
 place_within w vs i h lt = omega (arith, lt, shr-mono (get_or vs i 0) (last_of 0 vs) w (get_or-le-last 0 vs i h lt))
 
 -- one value more
@@ -95,18 +98,27 @@ on_ok-map (Ok x) A B f a = f a
 on_ok-map (Err e) A B f a = tt
 
 -- the bits that were made are those of the list
-pub built : (vs : List ℕ) (last w : ℕ) (low high : List Bool) → rises 0 vs ≡ true → length vs ≤ 2 ^ 36 → last ≡ last_of 0 vs → last < 2 ^ 64 →
+pub built : (vs : List ℕ) (last w : ℕ) (low high : List Bool) → rises 0 vs ≡ true → length vs ≤ 2 ^ 36 → last ≡ last_of 0 vs →
+    last < 2 ^ 64 →
     w ≡ low_width (length vs) last → low ≡ bits_of_each w vs →
     high ≡ high_bits w vs → AreValues (length vs) last w low high × (values_of w low high ≡ vs)
 built vs last w low high r few l small wide lows highs =
     let rising : IsRising vs = record { rising = r; fits = omega (arith, l, small); few = few } in
     let w-is : w ≡ low_width (length vs) (last_of 0 vs) = wide ∙ ap (λ (u : ℕ). low_width (length vs) u) l in
     let p = list-values vs rising in
-    rw (lows, highs, l, w-is)
-    (record { parts = p.0; fits = rising.fits; rising = ap (λ (xs : List ℕ). rises 0 xs) p.1 ∙ r; last_is = ap (λ (xs : List ℕ). last_of 0 xs) p.1 }, p.1)
+    rw (lows, highs, l, w-is) (
+      record {
+        parts = p.0;
+        fits = rising.fits;
+        rising = ap (λ (xs : List ℕ). rises 0 xs) p.1 ∙ r;
+        last_is = ap (λ (xs : List ℕ). last_of 0 xs) p.1;
+      },
+      p.1,
+    )
 
 -- what is above the low bits of the last value is at most twice the greatest count
-pub last_high : (count last w : ℕ) → (0 < count → last / 2 ^ w ≤ 2 * count) → (count ≡ 0 → last ≡ 0) → count ≤ 2 ^ 36 → last / 2 ^ w ≤ 2 ^ 37
+pub last_high : (count last w : ℕ) → (0 < count → last / 2 ^ w ≤ 2 * count) → (count ≡ 0 → last ≡ 0) → count ≤ 2 ^ 36 →
+    last / 2 ^ w ≤ 2 ^ 37
 last_high count last w some none few =
     elim (cases_lt 0 count) [
       | inl lt ↦ omega (arith, some lt)

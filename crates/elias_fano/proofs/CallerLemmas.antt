@@ -1,6 +1,7 @@
 -- What crates above use of numbers, runs of bits and whole lists.
 pub use Rattle.elias_fano.proofs.WidthLemmas.{log2_is, log2-le}
-pub use Rattle.elias_fano.proofs.ValueLemmas.{slice_get-some, slice_get-none, slice_get-is, low-lt, rises-yes, rises-parts, below_len-le, below_len-gt}
+pub use Rattle.elias_fano.proofs.ValueLemmas.{slice_get-some, slice_get-none, slice_get-is, found_is, low-lt, rises-yes, rises-parts, below_len-le}
+pub use Rattle.elias_fano.proofs.ValueLemmas.{below_len-gt}
 pub use Rattle.elias_fano.proofs.ValueLemmas.{below_len-most, below_len-all}
 pub use Rattle.elias_fano.proofs.BuildLemmas.{is_among-push, on_ok-map}
 pub use Rattle.elias_fano.proofs.FormLemmas.{IsBytes, length-words_in, IsBytes-drop, IsBytes-take, words_in-fit, packed_if_clear}

@@ -1,5 +1,6 @@
 -- What each step of reading gives, and how a fault of one step becomes that of the whole.
-use Rattle.std.proofs.Common.{◌≡◌, ℕ, zero, suc, ◌+◌, ◌*◌, ◌-◌, ◌^◌, ◌<◌, ◌≤◌, Bool, true, false, ltb, List, [], ◌∷◌, ◌++◌, length, get_or, take, drop, Ok}
+use Rattle.std.proofs.Common.{◌≡◌, ℕ, zero, suc, ◌+◌, ◌*◌, ◌-◌, ◌^◌, ◌<◌, ◌≤◌, Bool, true, false, ltb, List, [], ◌∷◌}
+use Rattle.std.proofs.Common.{◌++◌, length, get_or, take, drop, Ok}
 use Rattle.std.proofs.Common.{Err, refl, sym, ap, ◌∙◌, subst, inl, inr, arith}
 use Rattle.std.specs.Prelude.{◌⊎◌}
 use Rattle.std.specs.Int.{w64, from_le_bytes}
@@ -38,7 +39,8 @@ words_in-more (suc i) bytes =
     let place : 8 + 8 * i ≡ 8 * suc i = omega arith in
     ap (λ (k : ℕ). words_in k bytes) next
     ∙ ap (λ (ws : List ℕ). from_le_bytes w64 (take 8 bytes) ∷ ws) (words_in-more i (drop 8 bytes))
-    ∙ ap (λ (bs : List ℕ). from_le_bytes w64 (take 8 bytes) ∷ (words_in i (drop 8 bytes) ++ from_le_bytes w64 (take 8 bs) ∷ [])) (drop-drop (8 * i) 8 bytes
+    ∙ ap (λ (bs : List ℕ). from_le_bytes w64 (take 8 bytes) ∷ (words_in i (drop 8 bytes) ++ from_le_bytes w64 (take 8 bs) ∷ []))
+    (drop-drop (8 * i) 8 bytes
     ∙ ap (λ (k : ℕ). drop k bytes) place)
 
 -- no words are asked for
@@ -101,7 +103,8 @@ run_at-padding at len count bytes items c le h e other =
     rw (le-ltb (length bytes) (8 * words_for len) (omega (arith, c)), past, c) refl
 
 -- words that aren't packed aren't none
-pub some_words : (len count : ℕ) (bytes items : List ℕ) → count ≡ words_for len → items ≡ words_in count bytes → (IsPacked items len → ⊥) → 0 < count
+pub some_words : (len count : ℕ) (bytes items : List ℕ) → count ≡ words_for len → items ≡ words_in count bytes →
+    (IsPacked items len → ⊥) → 0 < count
 some_words len zero bytes items c e other =
     let none : len ≡ 0 = omega (arith, c) in
     let empty : items ≡ [] = e ∙ sym (words_in-none bytes) in
@@ -117,7 +120,8 @@ run_at-ok at len count bytes items bits c le e p b =
     let same : items ≡ words_in (words_for len) bytes = e ∙ ap (λ (k : ℕ). words_in k bytes) c in
     let clear : ltb (words_number (words_in (words_for len) bytes)) (2 ^ len) ≡ true =
     lt-ltb _ _ (subst (λ (ws : List ℕ). words_number ws < 2 ^ len) same p.clear) in
-    let value : bits_of len (words_number (words_in (words_for len) bytes)) ≡ bits = ap (λ (ws : List ℕ). bits_of len (words_number ws)) (sym same) ∙ sym b in
+    let value : bits_of len (words_number (words_in (words_for len) bytes)) ≡ bits = ap (λ (ws : List ℕ). bits_of len (words_number ws)) (sym same)
+    ∙ sym b in
     rw (
       le-ltb (length bytes) (8 * words_for len) (omega (arith, c)),
       clear,
@@ -154,7 +158,8 @@ checked-ok at high_at count last w low high e r l = rw (eq-eqb (ones high) count
 -- ---- one step after the other
 
 -- a fault of the low bits is that of the list
-pub parts_at-low : (e : ReadErr) (at count last w : ℕ) (bytes : List ℕ) → Fails e (run_at (at + 8) (count * w) bytes) → Fails e (parts_at at count last w bytes)
+pub parts_at-low : (e : ReadErr) (at count last w : ℕ) (bytes : List ℕ) → Fails e (run_at (at + 8) (count * w) bytes) →
+    Fails e (parts_at at count last w bytes)
 unfolding parts_at
 parts_at-low errors.NoMemory at count last w bytes h = tt
 parts_at-low (errors.Form f) at count last w bytes h = rw h refl
@@ -195,7 +200,8 @@ unfolding list_at
 list_at-last at count last bytes rest n none some = rw (n, eq-eqb count 0 none, ne_eqb last 0 some) refl
 
 -- otherwise the bits follow
-pub list_at-parts : (at count last : ℕ) (bytes rest : List ℕ) → number_at at bytes ≡ Ok (last, rest) → ((count ≡ 0) × (last ≡ 0)) ⊎ (count ≡ 0 → ⊥) →
+pub list_at-parts : (at count last : ℕ) (bytes rest : List ℕ) → number_at at bytes ≡ Ok (last, rest) →
+    ((count ≡ 0) × (last ≡ 0)) ⊎ (count ≡ 0 → ⊥) →
     list_at at count bytes ≡ parts_at at count last (low_width count last) rest
 unfolding list_at
 list_at-parts at count last bytes rest n h =

@@ -1,5 +1,6 @@
 -- What is read is what is spelled, and what is spelled is read again, whatever follows.
-use Rattle.std.proofs.Common.{◌≡◌, ℕ, zero, suc, ◌+◌, ◌*◌, ◌-◌, ◌/◌, ◌^◌, ◌<◌, ◌≤◌, Bool, true, false, cond, eqb, ltb, List, [], ◌∷◌, ◌++◌, length, get_or}
+use Rattle.std.proofs.Common.{◌≡◌, ℕ, zero, suc, ◌+◌, ◌*◌, ◌-◌, ◌/◌, ◌^◌, ◌<◌, ◌≤◌, Bool, true, false, cond, eqb, ltb}
+use Rattle.std.proofs.Common.{List, [], ◌∷◌, ◌++◌, length, get_or}
 use Rattle.std.proofs.Common.{take}
 use Rattle.std.proofs.Common.{drop, Result, Ok, Err, refl, sym, ap, ◌∙◌, subst, append_assoc, inl, inr, arith}
 use Rattle.std.specs.Prelude.{not, ◌&&◌, ◌⊎◌}
@@ -28,7 +29,8 @@ use Rattle.elias_fano.proofs.FormLemmas.{IsBytes, IsBytes-drop, IsBytes-take, pa
 use Rattle.elias_fano.proofs.FormLemmas.{list_at-parts}
 
 -- the value of a step that did not fail
-pub bind_ok : {A B : Type 0} (r : Result A FormFault) (f : A → Result B FormFault) (y : B) → (r >>= f) ≡ Ok y → (x : A) × (r ≡ Ok x) × (f x ≡ Ok y)
+pub bind_ok : {A B : Type 0} (r : Result A FormFault) (f : A → Result B FormFault) (y : B) → (r >>= f) ≡ Ok y →
+    (x : A) × (r ≡ Ok x) × (f x ≡ Ok y)
 bind_ok (Ok x) f y e = (x, refl, e)
 bind_ok (Err d) f y e = absurd cc
 
@@ -84,7 +86,8 @@ number_again at n rest lt =
     e ∙ ap (λ (t : List ℕ). Ok (n, t)) (take_rest (number n ++ rest) 8)
 
 -- words that are read are spelled by the bytes that they were
-pub words_written : (k : ℕ) (bytes : List ℕ) → IsBytes bytes → 8 * k ≤ length bytes → flat_map number (words_in k bytes) ++ drop (8 * k) bytes ≡ bytes
+pub words_written : (k : ℕ) (bytes : List ℕ) → IsBytes bytes → 8 * k ≤ length bytes →
+    flat_map number (words_in k bytes) ++ drop (8 * k) bytes ≡ bytes
 unfolding words_in
 words_written zero bytes fits le = refl
 words_written (suc k) bytes fits le =
@@ -93,7 +96,8 @@ words_written (suc k) bytes fits le =
     let place : 8 * suc k ≡ 8 + 8 * k = omega arith in
     let others = words_written k (drop 8 bytes) (IsBytes-drop 8 bytes fits) (omega (arith, Rattle.std.proofs.lemmas.List.length-drop 8 bytes)) in
     append_assoc (number w) (flat_map number (words_in k (drop 8 bytes))) (drop (8 * suc k) bytes)
-    ∙ ap (λ (t : List ℕ). number w ++ (flat_map number (words_in k (drop 8 bytes)) ++ t)) (ap (λ (j : ℕ). drop j bytes) place ∙ sym (drop-drop (8 * k) 8 bytes))
+    ∙ ap (λ (t : List ℕ). number w ++ (flat_map number (words_in k (drop 8 bytes)) ++ t)) (ap (λ (j : ℕ). drop j bytes) place
+    ∙ sym (drop-drop (8 * k) 8 bytes))
     ∙ ap (λ (t : List ℕ). number w ++ t) others
     ∙ ap (λ (t : List ℕ). t ++ drop 8 bytes) front
     ∙ take-append-drop 8 bytes
@@ -131,7 +135,8 @@ run_takes at len bytes bits rest fits e =
     let taken : Takes bytes (flat_map number (packed (bits_of len n))) (drop (8 * count) bytes) =
     record { parts = sym text; rest_fits = IsBytes-drop (8 * count) bytes fits } in
     subst (λ (t : List ℕ). Takes bytes (flat_map number (packed bits)) t × (length bits ≡ len)) rest-is
-    (subst (λ (bs : List Bool). Takes bytes (flat_map number (packed bs)) (drop (8 * count) bytes) × (length bs ≡ len)) bits-is (taken, length-bits_of len n))
+    (subst (λ (bs : List Bool). Takes bytes (flat_map number (packed bs)) (drop (8 * count) bytes)
+    × (length bs ≡ len)) bits-is (taken, length-bits_of len n))
 
 -- the spelling of a run is read as that run
 pub run_again : (at : ℕ) (bits : List Bool) (rest : List ℕ) → run_at at (length bits) (run bits ++ rest) ≡ Ok (bits, rest)
@@ -201,7 +206,8 @@ parts_take at count last bytes vs rest fits few small e =
     (subst (λ (xs : List ℕ). IsRising xs × (length xs ≡ count) × (number last ++ bytes ≡ ef_text xs ++ b.0.1)) k.1 made)
 
 -- a list that is read stood there as its spelling
-pub list_takes : (at count : ℕ) (bytes vs rest : List ℕ) → IsBytes bytes → count ≤ 2 ^ 36 → list_at at count bytes ≡ Ok (vs, rest) → IsTaken bytes count vs rest
+pub list_takes : (at count : ℕ) (bytes vs rest : List ℕ) → IsBytes bytes → count ≤ 2 ^ 36 → list_at at count bytes ≡ Ok (vs, rest) →
+    IsTaken bytes count vs rest
 unfolding list_at
 list_takes at count bytes vs rest fits few e =
     let a = bind_ok (number_at at bytes)

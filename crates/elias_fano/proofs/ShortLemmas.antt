@@ -1,5 +1,6 @@
 -- Too few bytes for the first words are told before memory is taken.
-use Rattle.std.proofs.Common.{◌≡◌, ℕ, ◌+◌, ◌*◌, ◌-◌, ◌^◌, ◌<◌, ◌≤◌, Bool, true, false, cond, eqb, ltb, List, length, drop, Result, Ok, Err}
+use Rattle.std.proofs.Common.{◌≡◌, ℕ, ◌+◌, ◌*◌, ◌-◌, ◌^◌, ◌<◌, ◌≤◌, Bool, true, false, cond, eqb, ltb, List, length, drop}
+use Rattle.std.proofs.Common.{Result, Ok, Err}
 use Rattle.std.proofs.Common.{refl, sym, ap, ◌∙◌, inl, inr, arith}
 use Rattle.std.specs.Prelude.{not, ◌&&◌, ◌⊎◌}
 use Rattle.std.proofs.lemmas.Bool.{ltb-true}
@@ -18,7 +19,8 @@ bind_err (Ok x) f d e = inr (x, refl, e)
 bind_err (Err c) f d e = inl (let same : c ≡ d = cc in ap Err same)
 
 -- the fault of a test, or of what comes after it
-pub guard_err : {B : Type 0} (b : Bool) (c d : FormFault) (r : Result B FormFault) → cond b (Err c) r ≡ Err d → ((b ≡ true) × (c ≡ d)) ⊎ (r ≡ Err d)
+pub guard_err : {B : Type 0} (b : Bool) (c d : FormFault) (r : Result B FormFault) → cond b (Err c) r ≡ Err d →
+    ((b ≡ true) × (c ≡ d)) ⊎ (r ≡ Err d)
 guard_err true c d r e = inl (refl, cc)
 guard_err false c d r e = inr e
 

@@ -1,5 +1,6 @@
 -- A list and the bits that it is written in.
-use Rattle.std.proofs.Common.{◌≡◌, ℕ, zero, suc, ◌+◌, ◌*◌, ◌-◌, ◌/◌, ◌%◌, ◌^◌, ◌<◌, ◌≤◌, Bool, true, false, List, [], ◌∷◌, ◌++◌, length, take, drop, refl}
+use Rattle.std.proofs.Common.{◌≡◌, ℕ, zero, suc, ◌+◌, ◌*◌, ◌-◌, ◌/◌, ◌%◌, ◌^◌, ◌<◌, ◌≤◌, Bool, true, false, List}
+use Rattle.std.proofs.Common.{[], ◌∷◌, ◌++◌, length, take, drop, refl}
 use Rattle.std.proofs.Common.{sym, ap, ◌∙◌, inl, inr, arith}
 use Rattle.std.proofs.lemmas.Bool.{cases_lt, eq-eqb, ne_eqb}
 use Rattle.std.proofs.lemmas.Nat.{shr_split, shr_high}
@@ -70,7 +71,8 @@ joined-high_places w k (v ∷ vs) =
     ∙ number_of-bits_of w v in
     let rest : drop w (bits_of w v ++ bits_of_each w vs) ≡ bits_of_each w vs = drop_at (bits_of w v) (bits_of_each w vs) w size in
     let first : (v / 2 ^ w + k - k) * 2 ^ w + number_of (take w (bits_of w v ++ bits_of_each w vs)) ≡ v =
-    ap (λ (x : ℕ). x * 2 ^ w + number_of (take w (bits_of w v ++ bits_of_each w vs))) high ∙ ap (λ (x : ℕ). v / 2 ^ w * 2 ^ w + x) low ∙ shr_split v w in
+    ap (λ (x : ℕ). x * 2 ^ w + number_of (take w (bits_of w v ++ bits_of_each w vs))) high ∙ ap (λ (x : ℕ). v / 2 ^ w * 2 ^ w + x) low
+    ∙ shr_split v w in
     ap (λ (x : ℕ). x ∷ joined w (k + 1) (high_places w (k + 1) vs) (drop w (bits_of w v ++ bits_of_each w vs))) first
     ∙ ap (λ (bs : List Bool). v ∷ joined w (k + 1) (high_places w (k + 1) vs) bs) rest
     ∙ ap (λ (xs : List ℕ). v ∷ xs) (joined-high_places w (k + 1) vs)
@@ -107,7 +109,8 @@ places_from-no_marks at zero = refl
 places_from-no_marks at (suc n) = places_from-no_marks (at + 1) n
 
 -- the places of the marks are those that were marked
-pub places_from-marks : (w k d at n : ℕ) (vs : List ℕ) → rises d vs ≡ true → at ≤ d / 2 ^ w + k → last_of d vs / 2 ^ w + k + length vs ≤ at + n →
+pub places_from-marks : (w k d at n : ℕ) (vs : List ℕ) → rises d vs ≡ true → at ≤ d / 2 ^ w + k →
+    last_of d vs / 2 ^ w + k + length vs ≤ at + n →
     places_from at (marks at n (high_places w k vs)) ≡ high_places w k vs
 unfolding places_from marks is_among high_places last_of
 places_from-marks w k d at zero [] h low high = refl
@@ -147,7 +150,8 @@ ef_text-values count last w low high v =
     let n = values-length count last w low high v.parts in
     let wide : low_width (length vs) (last_of 0 vs) ≡ w = ap (λ (k : ℕ). low_width k (last_of 0 vs)) n ∙ ap (λ (u : ℕ). low_width count u) v.last_is
     ∙ sym v.parts.wide in
-    let size : length low ≡ length (places high) * w = v.parts.low_len ∙ ap (λ (k : ℕ). k * w) (sym v.parts.ones_are ∙ sym (length-places_from 0 high)) in
+    let size : length low ≡ length (places high) * w = v.parts.low_len
+    ∙ ap (λ (k : ℕ). k * w) (sym v.parts.ones_are ∙ sym (length-places_from 0 high)) in
     let lows : bits_of_each w vs ≡ low = bits_of_each-joined w 0 (places high) low size in
     let tall : high_len (length vs) last w ≡ length high = ap (λ (k : ℕ). high_len k last w) n ∙ sym v.parts.high_len_is in
     let highs : marks 0 (high_len (length vs) last w) (high_places w 0 vs) ≡ high =

@@ -1,5 +1,6 @@
 -- One value from the place of its one and its low bits; values in order.
-use Rattle.std.proofs.Common.{◌≡◌, ℕ, zero, suc, ◌+◌, ◌*◌, ◌-◌, ◌/◌, ◌%◌, ◌^◌, ◌<◌, ◌≤◌, Bool, true, false, leb, ltb, List, [], ◌∷◌, length, get_or, take, drop}
+use Rattle.std.proofs.Common.{◌≡◌, ℕ, zero, suc, ◌+◌, ◌*◌, ◌-◌, ◌/◌, ◌%◌, ◌^◌, ◌<◌, ◌≤◌, Bool, true, false, leb}
+use Rattle.std.proofs.Common.{ltb, List, [], ◌∷◌, length, get_or, take, drop}
 use Rattle.std.proofs.Common.{Some, None, refl, sym, ap, ◌∙◌, inl, inr, arith}
 use Rattle.std.specs.Prelude.{◌⊎◌, IsSome}
 use Rattle.std.specs.List.{slice_get, prefix_len}
@@ -54,6 +55,10 @@ pub slice_get-is : (xs : List ℕ) (i d : ℕ) → i < length xs → slice_get x
 slice_get-is [] i d lt = absurd (omega arith)
 slice_get-is (x ∷ xs) zero d lt = refl
 slice_get-is (x ∷ xs) (suc i) d lt = slice_get-is xs i d (omega arith)
+
+-- a value that was found stands there
+pub found_is : (vs : List ℕ) (i v : ℕ) → i < length vs → slice_get vs i ≡ Some v → get_or vs i 0 ≡ v
+found_is vs i v lt e = let same : Some (get_or vs i 0) ≡ Some v = sym (slice_get-is vs i 0 lt) ∙ e in cc
 
 -- a place is not below its number
 pub place-le : (at : ℕ) (bs : List Bool) (i p : ℕ) → slice_get (places_from at bs) i ≡ Some p → at + i ≤ p

@@ -42,7 +42,8 @@ low_width-small count last e =
     ]
 
 -- otherwise the width is the logarithm of the mean step
-pub low_width-is : (count last r : ℕ) → (count ≡ 0 → ⊥) → last < 2 ^ 64 → (last / count ≡ 0 → ⊥) → 2 ^ r ≤ last / count → last / count < 2 * 2 ^ r →
+pub low_width-is : (count last r : ℕ) → (count ≡ 0 → ⊥) → last < 2 ^ 64 → (last / count ≡ 0 → ⊥) → 2 ^ r ≤ last / count →
+    last / count < 2 * 2 ^ r →
     low_width count last ≡ r
 unfolding low_width
 low_width-is count last r some small large low high =

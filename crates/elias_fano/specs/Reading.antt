@@ -1,5 +1,6 @@
 -- Reading a spelling from the left, with the first fault that is met.
-use Rattle.std.specs.Prelude.{ℕ, zero, suc, ◌≡◌, ◌+◌, ◌-◌, ◌*◌, ◌^◌, ◌≤◌, Bool, not, ◌&&◌, List, [], ◌∷◌, ◌++◌, length, take, drop, Result, Ok, Err}
+use Rattle.std.specs.Prelude.{ℕ, zero, suc, ◌≡◌, ◌+◌, ◌-◌, ◌*◌, ◌^◌, ◌≤◌, Bool, not, ◌&&◌, List, [], ◌∷◌, ◌++◌}
+use Rattle.std.specs.Prelude.{length, take, drop, Result, Ok, Err}
 use Rattle.std.specs.Prelude.{nat_lt, ◌==◌, if◌then◌else◌}
 use Rattle.std.specs.Int.{w64, from_le_bytes}
 use Rattle.bit_vector.specs.Bits.{bits_of, words_number, words_for, ones}
@@ -35,6 +36,10 @@ IsShort read = (place : ℕ) × (read ≡ Err (fault place SHORT))
 -- memory ran out
 abbrev pub LacksMemory : {X : Type 0} → Result X ReadErr → Type 0
 LacksMemory result = result ≡ Err errors.NoMemory
+
+-- where the bytes end too early, that is the answer, and not want of memory
+abbrev pub HidesNoShort : {X Y : Type 0} → Result X ReadErr → Result Y FormFault → Type 0
+HidesNoShort result read = LacksMemory result → IsShort read → ⊥
 
 -- where the bytes end before the first words that are kept, that is the answer, and not want of memory
 abbrev pub TellsShort : {X Y : Type 0} → ℕ → Result X ReadErr → Result Y FormFault → Type 0

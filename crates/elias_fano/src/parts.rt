@@ -1,5 +1,6 @@
 // The parts of a value: what stands above its low bits, and these.
-ghost use Rattle.std.specs.Prelude.{◌≡◌, ◌+◌, ◌-◌, ◌*◌, ◌/◌, ◌^◌, ◌<◌, ◌≤◌, ◌↔◌, ◌⊎◌, length, take, drop, slice_index, IsTrue};
+ghost use Rattle.std.specs.Prelude.{◌≡◌, ◌+◌, ◌-◌, ◌*◌, ◌/◌, ◌^◌, ◌<◌, ◌≤◌, ◌↔◌, ◌⊎◌, length, take, drop};
+ghost use Rattle.std.specs.Prelude.{slice_index, IsTrue};
 ghost use Rattle.bit_vector.specs.Bits.{number_of};
 ghost use Rattle.elias_fano.specs.Spelling.{low_width, last_of, rises};
 ghost use Rattle.elias_fano.specs.Values.{values_of, AreParts};

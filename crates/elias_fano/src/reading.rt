@@ -1,10 +1,9 @@
 // Numbers and runs of bits from the front of bytes, and a whole list.
 ghost use Rattle.std.specs.Prelude.{◌≡◌, ◌+◌, ◌*◌, ◌^◌, ◌<◌, ◌≤◌, ◌++◌, length, take, drop, OnOk, OnErr};
 ghost use Rattle.std.specs.Int.{w64, from_le_bytes};
-ghost use Rattle.bit_vector.specs.Bits.{words_for};
 ghost use Rattle.elias_fano.specs.Spelling.{low_width, high_len};
 ghost use Rattle.elias_fano.specs.declared.fault.ReadErr.TheVariants.{Form};
-ghost use Rattle.elias_fano.specs.Reading.{Gives, TellsShort, LacksMemory, fault, number_at, words_in, run_at, checked, parts_at, list_at};
+ghost use Rattle.elias_fano.specs.Reading.{Gives, TellsShort, HidesNoShort, LacksMemory, fault, number_at, words_in, run_at, checked, parts_at, list_at};
 
 use crate::fault::{COUNT, FormFault, LAST, ORDER, PADDING, ReadErr, SHORT};
 use crate::list::EliasFano;
@@ -77,7 +76,7 @@ fn run_of(alloc: Global, at: u64, len: u64, bytes: &[u8]) -> Result<(BitVec, &[u
     requires place { at ≤ 2 ^ 63 + 2 ^ 50 }
     ensures bits { Gives (λ x. (x.0, x.1.now)) result (run_at at len bytes.now) }
     ensures some { LacksMemory result → 0 < len }
-    ensures memory { LacksMemory result → 8 * words_for len ≤ length bytes.now }
+    ensures memory { HidesNoShort result (run_at at len bytes.now) }
 {
     let count = len.div_ceil(64);
     if (bytes.len() as u64) < 8 * count {

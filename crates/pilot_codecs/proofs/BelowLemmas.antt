@@ -1,5 +1,6 @@
 -- How many values at the front are below a bound.
-use Rattle.std.proofs.Common.{◌≡◌, ℕ, zero, suc, ◌+◌, ◌-◌, ◌<◌, ◌≤◌, Bool, cond, eqb, ltb, List, [], ◌∷◌, ◌++◌, length, get_or, map, Some, refl, sym, ap, ◌∙◌}
+use Rattle.std.proofs.Common.{◌≡◌, ℕ, zero, suc, ◌+◌, ◌-◌, ◌<◌, ◌≤◌, Bool, cond, eqb, ltb, List, [], ◌∷◌, ◌++◌, length}
+use Rattle.std.proofs.Common.{get_or, map, Some, refl, sym, ap, ◌∙◌}
 use Rattle.std.proofs.Common.{inl, inr, arith}
 use Rattle.std.specs.Prelude.{option_map}
 use Rattle.std.specs.List.{slice_get, prefix_len}
@@ -37,7 +38,8 @@ pub below_greatest : (bound : ℕ) (vs : List ℕ) → greatest vs < bound → b
 below_greatest bound vs lt = below_each bound vs (λ i within. omega (arith, get_or-le-greatest vs i))
 
 -- one more
-pub below_more : (bound : ℕ) (vs : List ℕ) (i : ℕ) → i ≤ below_len bound vs → i < length vs → get_or vs i 0 < bound → i + 1 ≤ below_len bound vs
+pub below_more : (bound : ℕ) (vs : List ℕ) (i : ℕ) → i ≤ below_len bound vs → i < length vs → get_or vs i 0 < bound →
+    i + 1 ≤ below_len bound vs
 below_more bound vs i le lt less =
     let n = below_len bound vs in
     elim (cases_lt i n) [
@@ -69,7 +71,8 @@ looked_up-at ds places i lt within =
     let found = slice_get-looked_up ds places i (slice_get places i) refl in
     let place = slice_get-is places i 0 lt in
     some_is (get_or (looked_up ds places) i 0) (get_or ds (get_or places i 0) 0)
-    (sym (slice_get-is (looked_up ds places) i 0 within) ∙ found ∙ ap (λ (r : Rattle.std.proofs.Common.Option ℕ). option_map (λ p. get_or ds p 0) r) place)
+    (sym (slice_get-is (looked_up ds places) i 0 within) ∙ found
+    ∙ ap (λ (r : Rattle.std.proofs.Common.Option ℕ). option_map (λ p. get_or ds p 0) r) place)
 
 -- all values are where the last entry is
 pub dict_within : (bound : ℕ) (ds places : List ℕ) → IsDict ds places → (0 < length ds → get_or ds (length ds - 1) 0 < bound) →

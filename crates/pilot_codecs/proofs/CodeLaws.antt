@@ -1,5 +1,6 @@
 -- What is read under a code or a pair is spelled so, and what is spelled is read again, whatever follows.
-use Rattle.std.proofs.Common.{◌≡◌, ℕ, ◌+◌, ◌-◌, ◌^◌, ◌<◌, ◌≤◌, List, ◌++◌, length, get_or, take, drop, Option, Some, None, Ok, refl, sym, ap, ◌∙◌, subst}
+use Rattle.std.proofs.Common.{◌≡◌, ℕ, ◌+◌, ◌-◌, ◌^◌, ◌<◌, ◌≤◌, List, ◌++◌, length, get_or, take, drop, Option, Some, None}
+use Rattle.std.proofs.Common.{Ok, refl, sym, ap, ◌∙◌, subst}
 use Rattle.std.proofs.Common.{append_assoc, arith}
 use Rattle.std.proofs.lemmas.List.{take_at, drop_at, drop-drop, length-append, length-drop, length-take, take-append-drop}
 use Rattle.pthash.specs.Sizes.{front_count_of}
@@ -30,7 +31,8 @@ rest_of bytes text rest fits e i =
     subst (λ (t : List ℕ). get_or t i 0 < 256) (sym same) (Rattle.elias_fano.proofs.CallerLemmas.IsBytes-drop (length text) bytes fits i)
 
 -- a list that is read under a code stood there as its spelling
-pub code_takes : (code : Code) (at count : ℕ) (bytes vs rest : List ℕ) → IsBytes bytes → count ≤ 2 ^ 30 → code_at code at count bytes ≡ Ok (vs, rest) →
+pub code_takes : (code : Code) (at count : ℕ) (bytes vs rest : List ℕ) → IsBytes bytes → count ≤ 2 ^ 30 →
+    code_at code at count bytes ≡ Ok (vs, rest) →
     IsTaken bytes (code_text code vs) count vs rest × Fits code vs
 code_takes codes.Compact at count bytes vs rest fits few e =
     let t = compact_takes at count bytes vs rest fits e in
@@ -137,7 +139,8 @@ spelled_again bytes at count enc vs next s =
     ∙ split_again enc.front enc.back at vs (drop next bytes) s.fit
 
 -- what is spelled at a place is what is read there
-pub spelled_same : (bytes : List ℕ) (at count : ℕ) (enc : Encoding) (vs : List ℕ) (next : ℕ) (us rest : List ℕ) → IsSpelled bytes at count enc vs next →
+pub spelled_same : (bytes : List ℕ) (at count : ℕ) (enc : Encoding) (vs : List ℕ) (next : ℕ) (us rest : List ℕ) →
+    IsSpelled bytes at count enc vs next →
     pair_at enc at count (drop at bytes) ≡ Ok (us, rest) → at ≤ length bytes →
     done {A = List ℕ × ℕ} (vs, next) ≡ Ok (us, length bytes - length rest)
 spelled_same bytes at count enc vs next us rest s e le =

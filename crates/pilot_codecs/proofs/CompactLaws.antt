@@ -1,5 +1,6 @@
 -- Packed numbers that are read are spelled so, and what is spelled is read again, whatever follows.
-use Rattle.std.proofs.Common.{◌≡◌, ℕ, zero, suc, ◌+◌, ◌*◌, ◌-◌, ◌^◌, ◌<◌, ◌≤◌, Bool, cond, eqb, ltb, List, ◌++◌, length, take, drop, Ok, Err, sym, ap, ◌∙◌}
+use Rattle.std.proofs.Common.{◌≡◌, ℕ, zero, suc, ◌+◌, ◌*◌, ◌-◌, ◌^◌, ◌<◌, ◌≤◌, Bool, cond, eqb, ltb, List, ◌++◌, length}
+use Rattle.std.proofs.Common.{take, drop, Ok, Err, sym, ap, ◌∙◌}
 use Rattle.std.proofs.Common.{subst, append_assoc, arith}
 use Rattle.std.specs.Prelude.{not, ◌||◌}
 use Rattle.std.specs.List.{flat_map}
@@ -69,7 +70,8 @@ packed_takes at count w bytes vs rest fits narrow e =
     (whole, IsBytes-drop (8 * size) bytes fits, length-fields count w bits, omega (arith, greatest-fields count w bits, more))
 
 -- a list that is read stood there as its spelling
-pub compact_takes : (at count : ℕ) (bytes vs rest : List ℕ) → IsBytes bytes → compact_at at count bytes ≡ Ok (vs, rest) → IsCompactText bytes count vs rest
+pub compact_takes : (at count : ℕ) (bytes vs rest : List ℕ) → IsBytes bytes → compact_at at count bytes ≡ Ok (vs, rest) →
+    IsCompactText bytes count vs rest
 unfolding compact_at
 compact_takes at count bytes vs rest fits e =
     let a = bind_ok (number_at at bytes) (λ width. cond (eqb width.0 0 || ltb 64 width.0) (Err (fault at 2)) (packed_at at count width.0 width.1)) (
@@ -115,4 +117,5 @@ compact_again at vs rest small =
       e,
       digits_of-pos (greatest vs),
     )) (digits_of-le (greatest vs))
-    ∙ read ∙ ap (λ (xs : List ℕ). Ok (xs, take (length after - 8 * length ws) (drop (8 * length ws) after))) same ∙ ap (λ (t : List ℕ). Ok (vs, t)) behind
+    ∙ read ∙ ap (λ (xs : List ℕ). Ok (xs, take (length after - 8 * length ws) (drop (8 * length ws) after))) same
+    ∙ ap (λ (t : List ℕ). Ok (vs, t)) behind

@@ -1,5 +1,6 @@
 -- Packed numbers, written and read.
-use Rattle.std.proofs.Common.{◌≡◌, ℕ, ◌+◌, ◌*◌, ◌-◌, ◌/◌, ◌%◌, ◌^◌, ◌<◌, ◌≤◌, max, Bool, true, false, eqb, ltb, List, ◌++◌, length, get_or, take, drop, Ok}
+use Rattle.std.proofs.Common.{◌≡◌, ℕ, ◌+◌, ◌*◌, ◌-◌, ◌/◌, ◌%◌, ◌^◌, ◌<◌, ◌≤◌, max, Bool, true, false, eqb, ltb}
+use Rattle.std.proofs.Common.{List, ◌++◌, length, get_or, take, drop, Ok}
 use Rattle.std.proofs.Common.{Err, refl, sym, ap, ◌∙◌, subst, inl, inr, arith}
 use Rattle.std.proofs.lemmas.Nat.{mul-le}
 use Rattle.std.proofs.lemmas.Bool.{cases_lt, cases_eq, lt-ltb, le-ltb, eq-eqb, ne_eqb}
@@ -87,7 +88,8 @@ unfolding packed_at
 packed_at-short at count w size bytes s lt = rw (lt-ltb (length bytes) (8 * words_for (count * w)) (omega (arith, s))) refl
 
 -- then a width that isn't that of the greatest value is the fault
-pub packed_at-width : (at count w size : ℕ) (bytes words : List ℕ) → size ≡ words_for (count * w) → 8 * size ≤ length bytes → words ≡ words_in size bytes →
+pub packed_at-width : (at count w size : ℕ) (bytes words : List ℕ) → size ≡ words_for (count * w) → 8 * size ≤ length bytes →
+    words ≡ words_in size bytes →
     (digits_of (greatest (fields count w (bits_of (count * w) (words_number words)))) ≡ w → ⊥) → packed_at at count w bytes ≡ Err (fault at 2)
 unfolding packed_at
 packed_at-width at count w size bytes words s le e other =
@@ -97,7 +99,8 @@ packed_at-width at count w size bytes words s le e other =
     rw (le-ltb (length bytes) (8 * words_for (count * w)) (omega (arith, s)), differs) refl
 
 -- then a set unused bit
-pub packed_at-padding : (at count w size : ℕ) (bytes words : List ℕ) → size ≡ words_for (count * w) → 8 * size ≤ length bytes → words ≡ words_in size bytes →
+pub packed_at-padding : (at count w size : ℕ) (bytes words : List ℕ) → size ≡ words_for (count * w) → 8 * size ≤ length bytes →
+    words ≡ words_in size bytes →
     IsBytes bytes →
     digits_of (greatest (fields count w (bits_of (count * w) (words_number words)))) ≡ w → (IsPacked words (count * w) → ⊥) →
     packed_at at count w bytes ≡ Err (fault (at + 8 + 8 * size - 8) 3)
@@ -126,7 +129,8 @@ packed_at-ok at count w size bytes words bits s le e d p b =
     let same : words ≡ words_at count w bytes = e ∙ ap (λ (k : ℕ). words_in k bytes) s in
     let equal : eqb (digits_of (greatest (fields_in count w bytes))) w ≡ true =
     eq-eqb _ _ (ap (λ (ws : List ℕ). digits_of (greatest (fields count w (bits_of len (words_number ws))))) (sym same) ∙ d) in
-    let clear : ltb (words_number (words_at count w bytes)) (2 ^ len) ≡ true = lt-ltb _ _ (subst (λ (ws : List ℕ). words_number ws < 2 ^ len) same p.clear) in
+    let clear : ltb (words_number (words_at count w bytes)) (2 ^ len) ≡ true =
+    lt-ltb _ _ (subst (λ (ws : List ℕ). words_number ws < 2 ^ len) same p.clear) in
     let value : fields_in count w bytes ≡ fields count w bits = ap (λ (ws : List ℕ). fields count w (bits_of len (words_number ws))) (sym same)
     ∙ ap (λ (bs : List Bool). fields count w bs) (sym b) in
     rw (

@@ -1,5 +1,6 @@
 -- What each step of reading a dictionary gives.
-use Rattle.std.proofs.Common.{◌≡◌, ℕ, ◌+◌, ◌*◌, ◌-◌, ◌<◌, ◌≤◌, true, false, ltb, List, length, take, drop, Ok, Err, refl, ap, ◌∙◌, inl, inr, arith}
+use Rattle.std.proofs.Common.{◌≡◌, ℕ, ◌+◌, ◌*◌, ◌-◌, ◌<◌, ◌≤◌, true, false, ltb, List, length, take, drop, Ok, Err, refl, ap}
+use Rattle.std.proofs.Common.{◌∙◌, inl, inr, arith}
 use Rattle.std.specs.Prelude.{◌⊎◌}
 use Rattle.std.proofs.lemmas.Bool.{lt-ltb, le-ltb, eq-eqb, ne_eqb}
 use Rattle.std.proofs.lemmas.List.{take_rest}
@@ -9,7 +10,8 @@ use Rattle.elias_fano.specs.Reading.{Fails, fault, number_at, words_in}
 use Rattle.pilot_codecs.specs.Reading.{compact_at, rise_len, are_below, are_used, looked_up, used_at, indexed_at, entries_at, dict_at}
 
 -- an index that isn't below the size is the first fault of the indexes
-pub used_at-below : (at : ℕ) (ds places : List ℕ) → are_below (length ds) places ≡ false → used_at at ds places ≡ Err (fault (at + 8 + 8 * length ds + 8) 5)
+pub used_at-below : (at : ℕ) (ds places : List ℕ) → are_below (length ds) places ≡ false →
+    used_at at ds places ≡ Err (fault (at + 8 + 8 * length ds + 8) 5)
 unfolding used_at
 used_at-below at ds places b = rw b refl
 
@@ -33,7 +35,8 @@ indexed_at-places errors.NoMemory at count ds bytes h = tt
 indexed_at-places (errors.Form f) at count ds bytes h = rw h refl
 
 -- so is one of what they say
-pub indexed_at-used : (e : ReadErr) (at count : ℕ) (ds bytes places rest : List ℕ) → compact_at (at + 8 + 8 * length ds) count bytes ≡ Ok (places, rest) →
+pub indexed_at-used : (e : ReadErr) (at count : ℕ) (ds bytes places rest : List ℕ) →
+    compact_at (at + 8 + 8 * length ds) count bytes ≡ Ok (places, rest) →
     Fails e (used_at at ds places) → Fails e (indexed_at at count ds bytes)
 unfolding indexed_at
 indexed_at-used errors.NoMemory at count ds bytes places rest p h = tt
@@ -51,7 +54,8 @@ unfolding entries_at
 entries_at-short at count size bytes lt = rw (lt-ltb (length bytes) (8 * size) lt) refl
 
 -- then an entry that isn't above the one before it is the fault
-pub entries_at-order : (at count size r : ℕ) (bytes ds : List ℕ) → 8 * size ≤ length bytes → ds ≡ words_in size bytes → r ≡ rise_len ds → r < size →
+pub entries_at-order : (at count size r : ℕ) (bytes ds : List ℕ) → 8 * size ≤ length bytes → ds ≡ words_in size bytes → r ≡ rise_len ds →
+    r < size →
     entries_at at count size bytes ≡ Err (fault (at + 8 + 8 * r) 4)
 unfolding entries_at
 entries_at-order at count size r bytes ds le e s lt =
@@ -73,7 +77,8 @@ dict_at-number errors.NoMemory at count bytes h = tt
 dict_at-number (errors.Form f) at count bytes h = rw h refl
 
 -- a size above the count, or 0 for some values, is a fault
-pub dict_at-size : (at count size : ℕ) (bytes rest : List ℕ) → number_at at bytes ≡ Ok (size, rest) → (count < size) ⊎ ((size ≡ 0) × (count ≡ 0 → ⊥)) →
+pub dict_at-size : (at count size : ℕ) (bytes rest : List ℕ) → number_at at bytes ≡ Ok (size, rest) →
+    (count < size) ⊎ ((size ≡ 0) × (count ≡ 0 → ⊥)) →
     dict_at at count bytes ≡ Err (fault at 5)
 unfolding dict_at
 dict_at-size at count size bytes rest n h =

@@ -1,5 +1,6 @@
 -- The dictionary of a list, and a list from a dictionary.
-use Rattle.std.proofs.Common.{◌≡◌, ℕ, zero, suc, ◌+◌, ◌<◌, ◌≤◌, Bool, true, false, cond, eqb, ltb, List, [], ◌∷◌, ◌++◌, length, get_or, map, Option, Some}
+use Rattle.std.proofs.Common.{◌≡◌, ℕ, zero, suc, ◌+◌, ◌<◌, ◌≤◌, Bool, true, false, cond, eqb, ltb, List, [], ◌∷◌, ◌++◌}
+use Rattle.std.proofs.Common.{length, get_or, map, Option, Some}
 use Rattle.std.proofs.Common.{refl, sym, ap, ◌∙◌, subst, inl, inr, arith}
 use Rattle.std.specs.Prelude.{option_map}
 use Rattle.std.specs.List.{flat_map, slice_get}
@@ -110,7 +111,8 @@ present_passed : (at n d : ℕ) (ds : List ℕ) → d < at → present_from at n
 unfolding present_from is_among
 present_passed at zero d ds lt = refl
 present_passed at (suc n) d ds lt =
-    rw (ne_eqb at d (λ e. omega (arith, e))) (ap (λ (rest : List ℕ). cond (is_among at ds) (at ∷ rest) rest) (present_passed (at + 1) n d ds (omega arith)))
+    rw (ne_eqb at d (λ e. omega (arith, e))) (ap (λ (rest : List ℕ). cond (is_among at ds) (at ∷ rest) rest)
+    (present_passed (at + 1) n d ds (omega arith)))
 
 -- the numbers among a rising list are that list
 pub present_rising : (at n : ℕ) (ds : List ℕ) → Up at ds → greatest ds < at + n → present_from at n ds ≡ ds

@@ -1,5 +1,6 @@
 -- A dictionary that rises, and indexes into it.
-use Rattle.std.proofs.Common.{◌≡◌, ℕ, zero, suc, ◌+◌, ◌<◌, ◌≤◌, Bool, true, false, eqb, ltb, List, [], ◌∷◌, length, get_or, take, drop, set, Some, refl, sym}
+use Rattle.std.proofs.Common.{◌≡◌, ℕ, zero, suc, ◌+◌, ◌<◌, ◌≤◌, Bool, true, false, eqb, ltb, List, [], ◌∷◌, length, get_or, take}
+use Rattle.std.proofs.Common.{drop, set, Some, refl, sym}
 use Rattle.std.proofs.Common.{ap, ◌∙◌, inl, inr, arith}
 use Rattle.std.proofs.Math.Bool.{beq}
 use Rattle.std.specs.Prelude.{not, ◌||◌}
@@ -66,7 +67,8 @@ rise_first [] lt = absurd (omega arith)
 rise_first (d ∷ ds) lt = sym (rise_len-cons d ds)
 
 -- a number above the one before it is counted, anywhere
-pub rise_step : (ds : List ℕ) (i b : ℕ) → i < length ds → b < get_or ds i 0 → rise_from b (drop i ds) ≡ rise_from (get_or ds i 0) (drop (i + 1) ds) + 1
+pub rise_step : (ds : List ℕ) (i b : ℕ) → i < length ds → b < get_or ds i 0 →
+    rise_from b (drop i ds) ≡ rise_from (get_or ds i 0) (drop (i + 1) ds) + 1
 rise_step ds i b lt up = ap (λ (xs : List ℕ). rise_from b xs) (drop_more ds i 0 lt) ∙ rise_from-yes b (get_or ds i 0) (drop (i + 1) ds) up
 
 -- at one that isn't the count ends, anywhere

@@ -1,5 +1,6 @@
 -- A dictionary spelling that is read is spelled so, and what is spelled is read again, whatever follows.
-use Rattle.std.proofs.Common.{◌≡◌, ℕ, ◌+◌, ◌*◌, ◌-◌, ◌^◌, ◌<◌, ◌≤◌, cond, eqb, ltb, List, ◌++◌, length, get_or, take, drop, map, Ok, Err, sym, ap, ◌∙◌, subst}
+use Rattle.std.proofs.Common.{◌≡◌, ℕ, ◌+◌, ◌*◌, ◌-◌, ◌^◌, ◌<◌, ◌≤◌, cond, eqb, ltb, List, ◌++◌, length, get_or, take}
+use Rattle.std.proofs.Common.{drop, map, Ok, Err, sym, ap, ◌∙◌, subst}
 use Rattle.std.proofs.Common.{append_assoc, inl, inr, arith}
 use Rattle.std.specs.Prelude.{not, ◌&&◌, ◌||◌, ◌⊎◌}
 use Rattle.std.specs.List.{flat_map}
@@ -64,8 +65,9 @@ entries_take at count size bytes vs rest fits e =
     let made : (number size ++ bytes ≡ dict_text got ++ a.0.1) × IsBytes a.0.1 × (length got ≡ count) × (greatest got < 2 ^ 64) =
     (text, t.taken.rest_fits, length-map a.0.0 (λ p. get_or ds p 0) ∙ t.count_is, looked_small ds a.0.0 (words_in-fit size bytes fits)) in
     let same : got ≡ b.0 = ok_is got b.0 m.1 in
-    subst (λ (p : List ℕ × List ℕ). (number size ++ bytes ≡ dict_text p.0 ++ p.1) × IsBytes p.1 × (length p.0 ≡ count) × (greatest p.0 < 2 ^ 64)) (ok_is {A =
-    List ℕ × List ℕ} (b.0, a.0.1) (vs, rest) b.2)
+    let both = ok_is {A = List ℕ × List ℕ} (b.0, a.0.1) (vs, rest) b.2 in
+    subst (λ (p : List ℕ × List ℕ). (number size ++ bytes ≡ dict_text p.0 ++ p.1) × IsBytes p.1 × (length p.0 ≡ count)
+    × (greatest p.0 < 2 ^ 64)) both
     (subst (λ (x : List ℕ). (number size ++ bytes ≡ dict_text x ++ a.0.1) × IsBytes a.0.1 × (length x ≡ count) × (greatest x < 2 ^ 64)) same made)
 
 -- a list that is read stood there as its spelling
@@ -80,7 +82,8 @@ dict_takes at count bytes vs rest fits e =
     record { taken = record { parts = t.0.parts ∙ p.0; rest_fits = p.1 }; count_is = p.2; small = p.3 }
 
 -- the spelling of a list is read as that list
-pub dict_again : (at : ℕ) (vs rest : List ℕ) → greatest vs < 2 ^ 64 → length vs ≤ 2 ^ 30 → dict_at at (length vs) (dict_text vs ++ rest) ≡ Ok (vs, rest)
+pub dict_again : (at : ℕ) (vs rest : List ℕ) → greatest vs < 2 ^ 64 → length vs ≤ 2 ^ 30 →
+    dict_at at (length vs) (dict_text vs ++ rest) ≡ Ok (vs, rest)
 unfolding dict_text
 dict_again at vs rest small few =
     let ds = distinct vs in

@@ -1,5 +1,6 @@
 -- Numbers of one width, and the width of the greatest.
-use Rattle.std.proofs.Common.{◌≡◌, ℕ, zero, suc, ◌+◌, ◌*◌, ◌/◌, ◌^◌, ◌<◌, ◌≤◌, max, Bool, List, [], ◌∷◌, ◌++◌, length, get_or, take, drop, refl, sym, ap, ◌∙◌}
+use Rattle.std.proofs.Common.{◌≡◌, ℕ, zero, suc, ◌+◌, ◌*◌, ◌/◌, ◌^◌, ◌<◌, ◌≤◌, max, Bool, List, [], ◌∷◌, ◌++◌}
+use Rattle.std.proofs.Common.{length, get_or, take, drop, refl, sym, ap, ◌∙◌}
 use Rattle.std.proofs.Common.{inl, inr, arith}
 use Rattle.std.proofs.Math.Nat.{mod-eq_of_lt}
 use Rattle.std.proofs.lemmas.Bool.{cases_lt, lt-ltb, le-ltb}
@@ -105,7 +106,8 @@ bits_of_each-fields (suc n) w bits e =
     let first : bits_of w (number_of (take w bits)) ≡ take w bits = ap (λ (j : ℕ). bits_of j (number_of (take w bits))) (sym size)
     ∙ bits_of-number_of (take w bits) in
     let others = bits_of_each-fields n w (drop w bits) (omega (arith, length-drop w bits, e)) in
-    ap (λ (bs : List Bool). bs ++ bits_of_each w (fields n w (drop w bits))) first ∙ ap (λ (bs : List Bool). take w bits ++ bs) others ∙ take-append-drop w bits
+    ap (λ (bs : List Bool). bs ++ bits_of_each w (fields n w (drop w bits))) first ∙ ap (λ (bs : List Bool). take w bits ++ bs) others
+    ∙ take-append-drop w bits
 
 -- the fields of the bits of values are these values
 pub fields-bits_of_each : (w : ℕ) (vs : List ℕ) → greatest vs < 2 ^ w → fields (length vs) w (bits_of_each w vs) ≡ vs
@@ -115,7 +117,8 @@ fields-bits_of_each w (v ∷ vs) lt =
     let size = length-bits_of w v in
     let front : take w (bits_of w v ++ bits_of_each w vs) ≡ bits_of w v = take_at (bits_of w v) (bits_of_each w vs) w size in
     let rest : drop w (bits_of w v ++ bits_of_each w vs) ≡ bits_of_each w vs = drop_at (bits_of w v) (bits_of_each w vs) w size in
-    let first : number_of (take w (bits_of w v ++ bits_of_each w vs)) ≡ v = ap number_of front ∙ number_of-bits_of w v ∙ mod-eq_of_lt (omega (arith, lt)) in
+    let first : number_of (take w (bits_of w v ++ bits_of_each w vs)) ≡ v = ap number_of front ∙ number_of-bits_of w v
+    ∙ mod-eq_of_lt (omega (arith, lt)) in
     ap (λ (x : ℕ). x ∷ fields (length vs) w (drop w (bits_of w v ++ bits_of_each w vs))) first
     ∙ ap (λ (bs : List Bool). v ∷ fields (length vs) w bs) rest
     ∙ ap (λ (xs : List ℕ). v ∷ xs) (fields-bits_of_each w vs (omega (arith, lt)))

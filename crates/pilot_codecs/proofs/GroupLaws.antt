@@ -1,5 +1,6 @@
 -- Groups that are read are spelled so, and what is spelled is read again, whatever follows.
-use Rattle.std.proofs.Common.{◌≡◌, ℕ, zero, suc, ◌+◌, ◌-◌, ◌^◌, ◌<◌, ◌≤◌, max, min, List, [], ◌∷◌, ◌++◌, length, take, drop, Ok, refl, sym, ap, ◌∙◌, subst}
+use Rattle.std.proofs.Common.{◌≡◌, ℕ, zero, suc, ◌+◌, ◌-◌, ◌^◌, ◌<◌, ◌≤◌, max, min, List, [], ◌∷◌, ◌++◌, length, take}
+use Rattle.std.proofs.Common.{drop, Ok, refl, sym, ap, ◌∙◌, subst}
 use Rattle.std.proofs.Common.{append_assoc, inl, inr, arith}
 use Rattle.std.specs.List.{flat_map}
 use Rattle.std.proofs.lemmas.Bool.{cases_lt}
@@ -102,7 +103,8 @@ groups_take (suc n) at count bytes gs rest k fits e =
       cut = cut_more n count a.0.0 b.0.0 lt first.count_is others.count_is others.cut;
       small = omega (arith, greatest-append a.0.0 (flat b.0.0), first.small, others.small);
     } in
-    subst (λ (p : List (List ℕ) × List ℕ). IsGroupsText bytes count p.0 p.1) (ok_is {A = List (List ℕ) × List ℕ} (a.0.0 ∷ b.0.0, b.0.1) (gs, rest) b.2) made
+    let same = ok_is {A = List (List ℕ) × List ℕ} (a.0.0 ∷ b.0.0, b.0.1) (gs, rest) b.2 in
+    subst (λ (p : List (List ℕ) × List ℕ). IsGroupsText bytes count p.0 p.1) same made
 
 -- the spelling of groups is read as these groups
 pub groups_again : (n at : ℕ) (vs rest : List ℕ) → greatest vs < 2 ^ 64 → n ≡ groups_for (length vs) →
@@ -128,13 +130,15 @@ groups_again (suc n) at vs rest small k =
     rw (first, more) refl
 
 -- a fault of the groups is that of the list
-pub parted_at-fails : (e : ReadErr) (at count : ℕ) (bytes : List ℕ) → Fails e (groups_at (groups_for count) at count bytes) → Fails e (parted_at at count bytes)
+pub parted_at-fails : (e : ReadErr) (at count : ℕ) (bytes : List ℕ) → Fails e (groups_at (groups_for count) at count bytes) →
+    Fails e (parted_at at count bytes)
 unfolding parted_at
 parted_at-fails errors.NoMemory at count bytes h = tt
 parted_at-fails (errors.Form f) at count bytes h = rw h refl
 
 -- without a fault the groups are the list
-pub parted_at-ok : (at count : ℕ) (bytes : List ℕ) (gs : List (List ℕ)) (rest : List ℕ) → groups_at (groups_for count) at count bytes ≡ Ok (gs, rest) →
+pub parted_at-ok : (at count : ℕ) (bytes : List ℕ) (gs : List (List ℕ)) (rest : List ℕ) →
+    groups_at (groups_for count) at count bytes ≡ Ok (gs, rest) →
     parted_at at count bytes ≡ Ok (flat gs, rest)
 unfolding parted_at
 parted_at-ok at count bytes gs rest h = rw h refl
@@ -146,12 +150,14 @@ pub record IsPartedText (bytes : List ℕ) (count : ℕ) (vs rest : List ℕ) : 
   pub small : greatest vs < 2 ^ 64
 
 -- a list that is read stood there as its spelling
-pub parted_takes : (at count : ℕ) (bytes vs rest : List ℕ) → IsBytes bytes → parted_at at count bytes ≡ Ok (vs, rest) → IsPartedText bytes count vs rest
+pub parted_takes : (at count : ℕ) (bytes vs rest : List ℕ) → IsBytes bytes → parted_at at count bytes ≡ Ok (vs, rest) →
+    IsPartedText bytes count vs rest
 unfolding parted_at parted_text
 parted_takes at count bytes vs rest fits e =
     let a = bind_ok (groups_at (groups_for count) at count bytes) (λ groups. Ok (flat groups.0, groups.1)) (vs, rest) e in
     let t = groups_take (groups_for count) at count bytes a.0.0 a.0.1 refl fits a.1 in
-    let cut : groups_of (groups_for (length (flat a.0.0))) (flat a.0.0) ≡ a.0.0 = ap (λ (k : ℕ). groups_of (groups_for k) (flat a.0.0)) t.count_is ∙ t.cut in
+    let cut : groups_of (groups_for (length (flat a.0.0))) (flat a.0.0) ≡ a.0.0 = ap (λ (k : ℕ). groups_of (groups_for k) (flat a.0.0)) t.count_is
+    ∙ t.cut in
     let taken : Takes bytes (flat_map compact_text (groups_of (groups_for (length (flat a.0.0))) (flat a.0.0))) a.0.1 =
     subst (λ (gs : List (List ℕ)). Takes bytes (flat_map compact_text gs) a.0.1) (sym cut) t.taken in
     let made : IsPartedText bytes count (flat a.0.0) a.0.1 = record { taken = taken; count_is = t.count_is; small = t.small } in

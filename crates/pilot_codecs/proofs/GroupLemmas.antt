@@ -1,5 +1,6 @@
 -- Groups of a list, and reading them one after the other, as a loop does.
-use Rattle.std.proofs.Common.{◌≡◌, ℕ, zero, suc, ◌+◌, ◌*◌, ◌-◌, ◌/◌, ◌%◌, ◌<◌, ◌≤◌, min, List, [], ◌∷◌, ◌++◌, length, get_or, take, drop, Some, Result, Ok}
+use Rattle.std.proofs.Common.{◌≡◌, ℕ, zero, suc, ◌+◌, ◌*◌, ◌-◌, ◌/◌, ◌%◌, ◌<◌, ◌≤◌, min, List, [], ◌∷◌, ◌++◌}
+use Rattle.std.proofs.Common.{length, get_or, take, drop, Some, Result, Ok}
 use Rattle.std.proofs.Common.{Err, refl, sym, ap, ◌∙◌, append_assoc, arith}
 use Rattle.std.specs.List.{flat_map, slice_get}
 use Rattle.std.proofs.lemmas.List.{append-nil, drop-drop, take-append-drop, drop_all, length-drop, length-take, get_or_default}
@@ -50,7 +51,8 @@ get_or-groups_of zero vs g d lt = absurd (omega arith)
 get_or-groups_of (suc n) vs zero d lt = refl
 get_or-groups_of (suc n) vs (suc g) d lt =
     let place : 256 + 256 * g ≡ 256 * suc g = omega arith in
-    get_or-groups_of n (drop 256 vs) g d (omega arith) ∙ ap (λ (xs : List ℕ). take 256 xs) (drop-drop (256 * g) 256 vs ∙ ap (λ (k : ℕ). drop k vs) place)
+    get_or-groups_of n (drop 256 vs) g d (omega arith) ∙ ap (λ (xs : List ℕ). take 256 xs) (drop-drop (256 * g) 256 vs
+    ∙ ap (λ (k : ℕ). drop k vs) place)
 
 -- a value among the first is the same value
 slice_get-take : (k : ℕ) (xs : List ℕ) (r : ℕ) → r < k → slice_get (take k xs) r ≡ slice_get xs r
@@ -107,7 +109,8 @@ size_is : (left size : ℕ) → 0 < left → size ≡ min 256 left → left - si
 size_is left size lt e = omega arith
 
 -- a group that is read moves to what was read
-pub goes_on : (front : List (List ℕ)) (left place size : ℕ) (bytes g after : List ℕ) (total : Result (List (List ℕ) × List ℕ) FormFault) → 0 < left →
+pub goes_on : (front : List (List ℕ)) (left place size : ℕ) (bytes g after : List ℕ) (total : Result (List (List ℕ) × List ℕ) FormFault) →
+    0 < left →
     size ≡ min 256 left → compact_at place size bytes ≡ Ok (g, after) →
     with_front front (groups_at (groups_for left) place left bytes) ≡ total →
     with_front (front ++ g ∷ []) (groups_at (groups_for (left - size)) (place + (length bytes - length after)) (left - size) after) ≡ total
@@ -122,7 +125,8 @@ goes_on front left place size bytes g after total lt s h so_far =
     ap (λ (j : ℕ). with_front (front ++ g ∷ []) (groups_at (groups_for j) (place + (length bytes - length after)) j after)) next ∙ sym one ∙ so_far
 
 -- a fault of the next group is that of all of them
-pub ends : (e : ReadErr) (front : List (List ℕ)) (left place size : ℕ) (bytes : List ℕ) (total : Result (List (List ℕ) × List ℕ) FormFault) → 0 < left →
+pub ends : (e : ReadErr) (front : List (List ℕ)) (left place size : ℕ) (bytes : List ℕ) (total : Result (List (List ℕ) × List ℕ) FormFault) →
+    0 < left →
     size ≡ min 256 left → Fails e (compact_at place size bytes) →
     with_front front (groups_at (groups_for left) place left bytes) ≡ total → Fails e total
 unfolding groups_at
@@ -179,7 +183,8 @@ abbrev pub with_more : List (List ℕ) → List ℕ × List ℕ → Result (List
 with_more groups x = Ok (groups ++ x.0 ∷ [], x.1)
 
 -- a fault of the groups with one more is that of the one
-not_more : (groups : List (List ℕ)) (read : Result (List ℕ × List ℕ) FormFault) (f : FormFault) → (read >>= with_more groups) ≡ Err f → read ≡ Err f
+not_more : (groups : List (List ℕ)) (read : Result (List ℕ × List ℕ) FormFault) (f : FormFault) → (read >>= with_more groups) ≡ Err f →
+    read ≡ Err f
 not_more groups (Ok x) f e = absurd cc
 not_more groups (Err g) f e = let same : g ≡ f = cc in ap Err same
 

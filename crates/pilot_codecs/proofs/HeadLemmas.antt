@@ -1,5 +1,6 @@
 -- Groups whose words stand in one buffer, as more words are put behind them.
-use Rattle.std.proofs.Common.{◌≡◌, ℕ, ◌+◌, ◌*◌, ◌-◌, ◌<◌, ◌≤◌, List, [], ◌∷◌, ◌++◌, length, map, get_or, take, drop, refl, sym, ap, ◌∙◌, subst, inl, inr, arith}
+use Rattle.std.proofs.Common.{◌≡◌, ℕ, ◌+◌, ◌*◌, ◌-◌, ◌<◌, ◌≤◌, List, [], ◌∷◌, ◌++◌, length, map, get_or, take, drop}
+use Rattle.std.proofs.Common.{refl, sym, ap, ◌∙◌, subst, inl, inr, arith}
 use Rattle.std.specs.List.{flat_map}
 use Rattle.std.proofs.lemmas.Bool.{cases_lt}
 use Rattle.std.proofs.lemmas.List.{take-append-drop, take-append-le, drop-append-le, drop_at, take_all, take_rest, length-take, length-drop, map_push}
@@ -28,7 +29,8 @@ pub record IsRead (count w size : ℕ) (bytes old new read : List ℕ) : Type 0 
   pub new_is : drop (length old) new ≡ words_in size bytes
 
 -- words that were read and put behind others are the new ones
-pub words_read : (count w width size start : ℕ) (bytes old new seen : List ℕ) → width ≡ w → size ≡ words_for (count * width) → start ≡ length old →
+pub words_read : (count w width size start : ℕ) (bytes old new seen : List ℕ) → width ≡ w → size ≡ words_for (count * width) →
+    start ≡ length old →
     seen ≡ new → new ≡ old ++ words_in size bytes →
     IsRead count w size bytes old new (take (length seen - start) (drop start seen))
 words_read count w width size start bytes old new seen same s at all e =
@@ -95,14 +97,16 @@ IsGroup-added old new head a = record {
 }
 
 -- with it all are groups
-pub AreGroups-added : (old new : List ℕ) (heads more : List Head) (head : Head) → AreGroups old heads → IsAdded old new head → more ≡ heads ++ head ∷ [] →
+pub AreGroups-added : (old new : List ℕ) (heads more : List Head) (head : Head) → AreGroups old heads → IsAdded old new head →
+    more ≡ heads ++ head ∷ [] →
     AreGroups new more
 AreGroups-added old new heads more head h a e =
     subst (λ (hs : List Head). AreGroups new hs) (sym e)
     (All-push (IsGroup new) heads head (AreGroups-kept old new heads a.kept h) (IsGroup-added old new head a))
 
 -- and its values stand behind those of the others
-pub groups-added : (old new : List ℕ) (heads more : List Head) (head : Head) → AreGroups old heads → IsAdded old new head → more ≡ heads ++ head ∷ [] →
+pub groups-added : (old new : List ℕ) (heads more : List Head) (head : Head) → AreGroups old heads → IsAdded old new head →
+    more ≡ heads ++ head ∷ [] →
     map (group_in new) more ≡ map (group_in old) heads ++ values_in head.count head.width (drop (length old) new) ∷ []
 groups-added old new heads more head h a e =
     ap (λ (hs : List Head). map (group_in new) hs) e ∙ map_push (group_in new) heads head
@@ -137,7 +141,8 @@ has_value words heads g i head h e lt =
     }
 
 -- the spellings of the groups so far, and of one more
-pub texts-more : (words text : List ℕ) (heads : List Head) (i : ℕ) (head : Head) → AreGroups words heads → i < length heads → head ≡ get_or heads i head →
+pub texts-more : (words text : List ℕ) (heads : List Head) (i : ℕ) (head : Head) → AreGroups words heads → i < length heads →
+    head ≡ get_or heads i head →
     text ≡ number head.width ++ flat_map number (words_under words head) →
     flat_map compact_text (map (group_in words) (take (i + 1) heads)) ≡ flat_map compact_text (map (group_in words) (take i heads)) ++ text
 texts-more words text heads i head h lt e t =

@@ -1,5 +1,6 @@
 -- What has a spelling, how long it is, and where it stands.
-use Rattle.std.proofs.Common.{◌≡◌, ℕ, zero, suc, ◌+◌, ◌-◌, ◌*◌, ◌/◌, ◌^◌, ◌<◌, ◌≤◌, List, [], ◌∷◌, ◌++◌, length, get_or, map, take, drop, Option, Some, None}
+use Rattle.std.proofs.Common.{◌≡◌, ℕ, zero, suc, ◌+◌, ◌-◌, ◌*◌, ◌/◌, ◌^◌, ◌<◌, ◌≤◌, List, [], ◌∷◌, ◌++◌}
+use Rattle.std.proofs.Common.{length, get_or, map, take, drop, Option, Some, None}
 use Rattle.std.proofs.Common.{refl, sym, ap, ◌∙◌, subst, append_assoc, arith}
 use Rattle.std.specs.List.{flat_map}
 use Rattle.std.proofs.lemmas.Nat.{mul-le}
@@ -104,7 +105,8 @@ length-code_text codes.EliasFano vs f =
     omega (arith, length-ef_text (sums_from 0 vs) r, n)
 
 -- at most 16 bytes a value and 80 more
-pub length-split_text : (front : Code) (back : Option Code) (vs : List ℕ) → FitSplit front back vs → length (split_text front back vs) ≤ 16 * length vs + 80
+pub length-split_text : (front : Code) (back : Option Code) (vs : List ℕ) → FitSplit front back vs →
+    length (split_text front back vs) ≤ 16 * length vs + 80
 length-split_text front None vs f = omega (arith, length-code_text front vs f)
 length-split_text front (Some back) vs f =
     let n = front_count_of (length vs) in

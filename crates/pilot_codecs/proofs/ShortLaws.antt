@@ -1,5 +1,6 @@
 -- Too few bytes for the first words of a list are told before memory is taken.
-use Rattle.std.proofs.Common.{◌≡◌, ℕ, zero, suc, ◌+◌, ◌*◌, ◌-◌, ◌^◌, ◌<◌, ◌≤◌, min, Bool, true, false, cond, eqb, ltb, List, [], ◌∷◌, ◌++◌, length, take, drop}
+use Rattle.std.proofs.Common.{◌≡◌, ℕ, zero, suc, ◌+◌, ◌*◌, ◌-◌, ◌^◌, ◌<◌, ◌≤◌, min, Bool, true, false, cond, eqb, ltb, List}
+use Rattle.std.proofs.Common.{[], ◌∷◌, ◌++◌, length, take, drop}
 use Rattle.std.proofs.Common.{Option, Some, None, Result, Ok, Err, refl, sym, ap, ◌∙◌, inl, inr, arith}
 use Rattle.std.specs.Prelude.{not, ◌&&◌, ◌||◌, ◌⊎◌}
 use Rattle.std.specs.List.{flat_map}
@@ -12,7 +13,7 @@ use Rattle.elias_fano.specs.declared.fault.FormFault.{FormFault}
 use Rattle.elias_fano.specs.declared.fault.ReadErr.{ReadErr}
 use Rattle.elias_fano.specs.declared.fault.ReadErr.TheVariants as errors
 use Rattle.elias_fano.specs.Spelling.{number, run}
-use Rattle.elias_fano.specs.Reading.{◌>>=◌, Gives, IsShort, LacksMemory, TellsShort, fault, number_at, words_in, list_at}
+use Rattle.elias_fano.specs.Reading.{◌>>=◌, Gives, HidesNoShort, LacksMemory, TellsShort, fault, number_at, words_in, list_at}
 use Rattle.elias_fano.proofs.CallerLemmas.{IsBytes, length-words_in, length-run, bind_err, guard_err, guard_last_err, not_both, other_kind, tells}
 use Rattle.pilot_codecs.specs.Spelling.{digits_of, greatest, groups_for, compact_text}
 use Rattle.pilot_codecs.specs.Reading.{fields_in, packed_at, compact_at, groups_at, parted_at, rise_len, are_below, are_used, looked_up, used_at, indexed_at}
@@ -32,7 +33,7 @@ tells_fault at d result read is fails = tells at (errors.Form d) result read is 
 
 -- what is short is told, where want of memory tells that it isn't short
 pub tells_if : {X Y : Type 0} (at : ℕ) (view : X → Y) (result : Result X ReadErr) (read : Result Y FormFault) → Gives view result read →
-    (LacksMemory result → IsShort read → ⊥) → TellsShort at result read
+    HidesNoShort result read → TellsShort at result read
 tells_if at view (Ok x) read gives enough = λ place le short. absurd (not_both (sym gives ∙ short))
 tells_if at view (Err errors.NoMemory) read gives enough = λ place le short. absurd (enough refl (place, short))
 tells_if at view (Err (errors.Form d)) read gives enough = tells_fault at d (Err (errors.Form d)) read refl gives
@@ -138,7 +139,8 @@ sums_short at count bytes d e =
     ]
 
 -- a fault of a list in groups is one of the groups
-pub parted_short : (at count : ℕ) (bytes : List ℕ) (d : FormFault) → parted_at at count bytes ≡ Err d → groups_at (groups_for count) at count bytes ≡ Err d
+pub parted_short : (at count : ℕ) (bytes : List ℕ) (d : FormFault) → parted_at at count bytes ≡ Err d →
+    groups_at (groups_for count) at count bytes ≡ Err d
 unfolding parted_at
 parted_short at count bytes d e =
     elim (bind_err (groups_at (groups_for count) at count bytes) (λ groups. Ok (flat_map (λ g. g) groups.0, groups.1)) d e) [
@@ -147,7 +149,8 @@ parted_short at count bytes d e =
     ]
 
 -- a fault behind what was read is one of what is still read
-pub with_short : (front : List (List ℕ)) (read : Result (List (List ℕ) × List ℕ) FormFault) (d : FormFault) → with_front front read ≡ Err d → read ≡ Err d
+pub with_short : (front : List (List ℕ)) (read : Result (List (List ℕ) × List ℕ) FormFault) (d : FormFault) → with_front front read ≡ Err d →
+    read ≡ Err d
 with_short front read d e =
     elim (bind_err read (λ x. Ok (front ++ x.0, x.1)) d e) [
       | inl first ↦ first
@@ -179,7 +182,8 @@ group_long vs some =
     omega (arith, length-append (number w) (run bits), length-run bits, length-bits_of_each w vs, pos)
 
 -- groups are short in the first one, or so far behind its place
-pub groups_short : (left place there : ℕ) (bytes : List ℕ) → IsBytes bytes → 0 < left → groups_at (groups_for left) place left bytes ≡ Err (fault there 1) →
+pub groups_short : (left place there : ℕ) (bytes : List ℕ) → IsBytes bytes → 0 < left →
+    groups_at (groups_for left) place left bytes ≡ Err (fault there 1) →
     (compact_at place (min 256 left) bytes ≡ Err (fault there 1)) ⊎ (place + 16 ≤ there)
 unfolding groups_at
 groups_short left place there bytes fits some e =
@@ -190,12 +194,13 @@ groups_short left place there bytes fits some e =
     elim (bind_err (compact_at place (min 256 left) bytes) (λ first. groups_at n (place + (length bytes - length first.1)) (left - 256) first.1 >>= λ others.
     Ok (first.0 ∷ others.0, others.1)) d more) [
       | inl one ↦ inl one
-      | inr a ↦ elim (bind_err (groups_at n (place + (length bytes - length a.0.1)) (left - 256) a.0.1) (λ others. Ok (a.0.0 ∷ others.0, others.1)) d a.2) [
-        | inl behind ↦
-            let t = compact_takes place (min 256 left) bytes a.0.0 a.0.1 fits a.1 in
-            let long = group_long a.0.0 (omega (arith, t.count_is, some)) in
-            let size = ap length t.taken.parts ∙ length-append (compact_text a.0.0) a.0.1 in
-            inr (omega (arith, groups_from n (place + (length bytes - length a.0.1)) (left - 256) there a.0.1 behind, long, size))
-        | inr b ↦ absurd (not_both b.2)
-      ]
+      | inr a ↦ elim (bind_err (groups_at n (place + (length bytes - length a.0.1)) (left - 256) a.0.1)
+          (λ others. Ok (a.0.0 ∷ others.0, others.1)) d a.2) [
+            | inl behind ↦
+                let t = compact_takes place (min 256 left) bytes a.0.0 a.0.1 fits a.1 in
+                let long = group_long a.0.0 (omega (arith, t.count_is, some)) in
+                let size = ap length t.taken.parts ∙ length-append (compact_text a.0.0) a.0.1 in
+                inr (omega (arith, groups_from n (place + (length bytes - length a.0.1)) (left - 256) there a.0.1 behind, long, size))
+            | inr b ↦ absurd (not_both b.2)
+          ]
     ]

@@ -1,5 +1,6 @@
 -- Sums and steps.
-use Rattle.std.proofs.Common.{◌≡◌, ℕ, zero, suc, ◌+◌, ◌*◌, ◌-◌, ◌^◌, ◌<◌, ◌≤◌, true, List, [], ◌∷◌, ◌++◌, length, get_or, take, Some, Ok, refl, sym, ap, ◌∙◌}
+use Rattle.std.proofs.Common.{◌≡◌, ℕ, zero, suc, ◌+◌, ◌*◌, ◌-◌, ◌^◌, ◌<◌, ◌≤◌, true, List, [], ◌∷◌, ◌++◌, length}
+use Rattle.std.proofs.Common.{get_or, take, Some, Ok, refl, sym, ap, ◌∙◌}
 use Rattle.std.proofs.Common.{subst, arith}
 use Rattle.std.specs.List.{slice_get}
 use Rattle.std.proofs.lemmas.List.{take_more}
@@ -35,7 +36,8 @@ pub total-more : (vs : List ℕ) (i : ℕ) → i < length vs → total (take (i 
 total-more vs i lt = ap total (take_more vs i 0 lt) ∙ total-push (take i vs) (get_or vs i 0)
 
 -- and its sum stands behind the others
-pub sums_from-more : (vs : List ℕ) (i : ℕ) → i < length vs → sums_from 0 (take (i + 1) vs) ≡ sums_from 0 (take i vs) ++ (total (take i vs) + get_or vs i 0) ∷ []
+pub sums_from-more : (vs : List ℕ) (i : ℕ) → i < length vs →
+    sums_from 0 (take (i + 1) vs) ≡ sums_from 0 (take i vs) ++ (total (take i vs) + get_or vs i 0) ∷ []
 sums_from-more vs i lt = let e : 0 + total (take i vs) + get_or vs i 0 ≡ total (take i vs) + get_or vs i 0 = omega arith in
     ap (λ (xs : List ℕ). sums_from 0 xs) (take_more vs i 0 lt) ∙ sums_from-push 0 (take i vs) (get_or vs i 0)
     ∙ ap (λ (x : ℕ). sums_from 0 (take i vs) ++ x ∷ []) e
@@ -123,7 +125,8 @@ sums_at-fails errors.NoMemory at count bytes h = tt
 sums_at-fails (errors.Form f) at count bytes h = rw h refl
 
 -- without a fault the steps are the list
-pub sums_at-ok : (at count : ℕ) (bytes ss rest : List ℕ) → list_at at count bytes ≡ Ok (ss, rest) → sums_at at count bytes ≡ Ok (steps_from 0 ss, rest)
+pub sums_at-ok : (at count : ℕ) (bytes ss rest : List ℕ) → list_at at count bytes ≡ Ok (ss, rest) →
+    sums_at at count bytes ≡ Ok (steps_from 0 ss, rest)
 unfolding sums_at
 sums_at-ok at count bytes ss rest h = rw h refl
 
@@ -156,5 +159,8 @@ sums_again at vs rest small few =
 pub step_up : (b : ℕ) (ss : List ℕ) (i s t : ℕ) → rises b ss ≡ true → slice_get ss i ≡ Some s → slice_get ss (suc i) ≡ Some t → s ≤ t
 step_up b [] i s t h e f = absurd cc
 step_up b (x ∷ []) i s t h e f = absurd cc
-step_up b (x ∷ y ∷ ss) zero s t h e f = let p : x ≡ s = cc in let q : y ≡ t = cc in omega (arith, p, q, (rises-parts x y ss (rises-parts b x (y ∷ ss) h).1).0)
+step_up b (x ∷ y ∷ ss) zero s t h e f =
+    let p : x ≡ s = cc in
+    let q : y ≡ t = cc in
+    omega (arith, p, q, (rises-parts x y ss (rises-parts b x (y ∷ ss) h).1).0)
 step_up b (x ∷ y ∷ ss) (suc i) s t h e f = step_up x (y ∷ ss) i s t (rises-parts b x (y ∷ ss) h).1 e f

@@ -1,5 +1,6 @@
 -- The width of packed numbers, by their top bits.
-use Rattle.std.proofs.Common.{◌≡◌, ℕ, zero, suc, ◌+◌, ◌*◌, ◌/◌, ◌-◌, ◌^◌, ◌<◌, ◌≤◌, List, length, get_or, ap, ◌∙◌, inl, inr, arith}
+use Rattle.std.proofs.Common.{◌≡◌, ℕ, zero, suc, ◌+◌, ◌*◌, ◌/◌, ◌-◌, ◌^◌, ◌<◌, ◌≤◌, List, length, get_or, ap, ◌∙◌}
+use Rattle.std.proofs.Common.{inl, inr, arith}
 use Rattle.std.proofs.Math.Nat.{pow-suc, pow-le-pow_right}
 use Rattle.std.proofs.lemmas.Bool.{cases_lt, lt-ltb, le-ltb}
 use Rattle.elias_fano.specs.Spelling.{log2_within}
@@ -28,14 +29,16 @@ pub one_digit : (n : ℕ) → n < 2 ^ 1 → digits_of n ≡ 1
 one_digit n lt = omega (arith, digits_within n 0 lt, digits_of-pos n)
 
 -- the width is right where some value has its top bit
-pub top_reached : (vs : List ℕ) (w r i : ℕ) → w ≡ r + 1 → w ≤ 64 → greatest vs < 2 ^ w → 2 ^ r ≤ get_or vs i 0 → digits_of (greatest vs) ≡ w
+pub top_reached : (vs : List ℕ) (w r i : ℕ) → w ≡ r + 1 → w ≤ 64 → greatest vs < 2 ^ w → 2 ^ r ≤ get_or vs i 0 →
+    digits_of (greatest vs) ≡ w
 top_reached vs w r i e narrow fits reached =
     let more : 2 ^ w ≤ 2 ^ 64 = pow-le-pow_right (omega arith) narrow in
     let double : 2 ^ w ≡ 2 ^ r * 2 = ap (λ (k : ℕ). 2 ^ k) (omega (arith, e)) ∙ pow-suc 2 r in
     omega (arith, digits_of-is (greatest vs) r (omega (arith, fits, more)) (omega (arith, reached, get_or-le-greatest vs i)) (omega (arith, fits, double)), e)
 
 -- the width is wrong where no value has its top bit
-pub top_missed : (vs : List ℕ) (w r : ℕ) → w ≡ r + 1 → 0 < r → ((i : ℕ) → i < length vs → get_or vs i 0 < 2 ^ r) → digits_of (greatest vs) ≡ w → ⊥
+pub top_missed : (vs : List ℕ) (w r : ℕ) → w ≡ r + 1 → 0 < r → ((i : ℕ) → i < length vs → get_or vs i 0 < 2 ^ r) →
+    digits_of (greatest vs) ≡ w → ⊥
 top_missed vs w zero e some below is = omega (arith, some)
 top_missed vs w (suc r) e some below is =
     let most = greatest_within (2 ^ suc r - 1) vs (λ i lt. omega (arith, below i lt)) in

@@ -1,5 +1,6 @@
 -- What the fields of the parts keep.
-use Rattle.std.specs.Prelude.{ℕ, ◌≡◌, ◌+◌, ◌*◌, ◌^◌, ◌<◌, ◌≤◌, true, List, [], ◌∷◌, ◌++◌, length, take, drop, slice_index, Result, Ok}
+use Rattle.std.specs.Prelude.{ℕ, ◌≡◌, ◌+◌, ◌*◌, ◌^◌, ◌<◌, ◌≤◌, true, List, [], ◌∷◌, ◌++◌, length, take, drop}
+use Rattle.std.specs.Prelude.{slice_index, Result, Ok}
 use Rattle.std.specs.List.{flat_map, All}
 use Rattle.bit_vector.specs.Bits.{bits_of, words_number, words_for, IsPacked}
 use Rattle.elias_fano.specs.declared.fault.FormFault.{FormFault}

@@ -3,8 +3,7 @@ ghost use Rattle.std.specs.Prelude.{◌≡◌, ◌+◌, ◌*◌, ◌^◌, ◌<�
 ghost use Rattle.std.specs.List.{slice_get, flat_map};
 ghost use Rattle.elias_fano.specs.Spelling.{number};
 ghost use Rattle.elias_fano.specs.Values.{below_len};
-ghost use Rattle.bit_vector.specs.Bits.{words_for};
-ghost use Rattle.elias_fano.specs.Reading.{Gives, IsShort, LacksMemory};
+ghost use Rattle.elias_fano.specs.Reading.{Gives, HidesNoShort};
 ghost use Rattle.pilot_codecs.specs.Spelling.{digits_of, greatest, compact_text};
 ghost use Rattle.pilot_codecs.specs.Reading.{packed_at, compact_at};
 ghost use Rattle.pilot_codecs.specs.Parts.{values_in, IsCompact};
@@ -142,7 +141,7 @@ pub fn read_values<'a>(
       values_in count x.0 (drop (length words.old.items) words.new.items),
       x.1.now,
     )) result (compact_at at count bytes.now) }
-    ensures memory { LacksMemory result → IsShort (compact_at at count bytes.now) → ⊥ }
+    ensures memory { HidesNoShort result (compact_at at count bytes.now) }
     ensures compact { IfOk result (λ x. IsCompact count x.0
         (drop (length words.old.items) words.new.items)) }
     ensures kept { take (length words.old.items) words.new.items ≡ words.old.items }
@@ -171,7 +170,7 @@ fn read_packed<'a>(
       values_in count width (drop (length words.old.items) words.new.items),
       x.now,
     )) result (packed_at at count width bytes.now) }
-    ensures memory { LacksMemory result → 8 * words_for (count * width) ≤ length bytes.now }
+    ensures memory { HidesNoShort result (packed_at at count width bytes.now) }
     ensures compact { OnOk result (IsCompact count width
         (drop (length words.old.items) words.new.items)) }
     ensures kept { take (length words.old.items) words.new.items ≡ words.old.items }
@@ -257,7 +256,7 @@ impl Compact {
         requires few { count ≤ 2 ^ 30 }
         requires place { at ≤ 2 ^ 63 + 2 ^ 50 }
         ensures values { Gives (λ x. (x.0, x.1.now)) result (compact_at at count bytes.now) }
-        ensures memory { LacksMemory result → IsShort (compact_at at count bytes.now) → ⊥ }
+        ensures memory { HidesNoShort result (compact_at at count bytes.now) }
     {
         let mut words = Vec::new(alloc);
         let (width, rest) = read_values(&mut words, at, count, bytes)?;

@@ -3,7 +3,7 @@ ghost use Rattle.std.specs.Prelude.{◌≡◌, ◌+◌, ◌^◌, ◌≤◌, ◌+
 ghost use Rattle.std.specs.List.{slice_get, flat_map};
 ghost use Rattle.elias_fano.specs.Spelling.{number};
 ghost use Rattle.elias_fano.specs.Values.{below_len};
-ghost use Rattle.elias_fano.specs.Reading.{Gives, IsShort, LacksMemory, TellsShort};
+ghost use Rattle.elias_fano.specs.Reading.{Gives, HidesNoShort, TellsShort};
 ghost use Rattle.pilot_codecs.specs.Spelling.{dict_text, compact_text};
 ghost use Rattle.pilot_codecs.specs.Reading.{rise_len, used_at, indexed_at, entries_at, dict_at};
 
@@ -155,7 +155,7 @@ fn indexed_of(
     requires place { at ≤ 2 ^ 63 + 2 ^ 49 }
     ensures values { Gives (λ x. (x.0, x.1.now)) result
         (indexed_at at count entries.items bytes.now) }
-    ensures memory { LacksMemory result → IsShort (indexed_at at count entries.items bytes.now) → ⊥ }
+    ensures memory { HidesNoShort result (indexed_at at count entries.items bytes.now) }
 {
     let size = entries.len() as u64;
     let (places, rest) = Compact::read(alloc, at + 8 + 8 * size, count, bytes)?;

@@ -1,9 +1,10 @@
 // Lists of numbers, each in the width of its greatest, with their words in one buffer.
-ghost use Rattle.std.specs.Prelude.{◌≡◌, ◌+◌, ◌*◌, ◌^◌, ◌<◌, ◌≤◌, ◌++◌, [], ◌∷◌, length, take, slice_index, slice_index_or, OnOk, OnErr};
+ghost use Rattle.std.specs.Prelude.{◌≡◌, ◌+◌, ◌*◌, ◌^◌, ◌<◌, ◌≤◌, ◌++◌, [], ◌∷◌, length, take, slice_index};
+ghost use Rattle.std.specs.Prelude.{slice_index_or, OnOk, OnErr};
 ghost use Rattle.std.specs.List.{flat_map};
 ghost use Rattle.bit_vector.specs.Bits.{words_for};
 ghost use Rattle.elias_fano.specs.Values.{below_len};
-ghost use Rattle.elias_fano.specs.Reading.{Gives, IsShort, LacksMemory, TellsShort};
+ghost use Rattle.elias_fano.specs.Reading.{Gives, HidesNoShort, TellsShort};
 ghost use Rattle.pilot_codecs.specs.Spelling.{compact_text, groups_for};
 ghost use Rattle.pilot_codecs.specs.Reading.{compact_at, groups_at};
 ghost use Rattle.pilot_codecs.specs.Parts.{words_under, group_more_at};
@@ -136,7 +137,7 @@ impl Groups {
         requires place { at ≤ 2 ^ 63 + 2 ^ 50 }
         ensures groups { Gives (λ x. (self.new, x.now)) result
             (group_more_at self.old at count bytes.now) }
-        ensures memory { LacksMemory result → IsShort (compact_at at count bytes.now) → ⊥ }
+        ensures memory { HidesNoShort result (compact_at at count bytes.now) }
         ensures err { OnErr result (self.new ≡ self.old) }
     {
         let start = self.words.len();

@@ -35,4 +35,5 @@ pub returns : goal.returns
 returns c =
     let vs = c.args.values.now in
     let w = c.args.width in
-    c.loop-i.invariant ∙ ap (λ (xs : List ℕ). marks 0 (high_len (length vs) (last_of 0 vs) w) (high_places w 0 xs)) (take_all c.loop-i.i vs c.loop-i-test.false)
+    c.loop-i.invariant ∙ ap (λ (xs : List ℕ). marks 0 (high_len (length vs) (last_of 0 vs) w) (high_places w 0 xs))
+    (take_all c.loop-i.i vs c.loop-i-test.false)

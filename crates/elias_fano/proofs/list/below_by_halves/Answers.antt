@@ -1,11 +1,6 @@
-use Rattle.std.proofs.Common.{◌≡◌, ℕ, ◌+◌, ◌-◌, ◌/◌, ◌<◌, List, length, get_or, Some, sym, ◌∙◌, arith}
-use Rattle.std.specs.List.{slice_get}
-use Rattle.elias_fano.proofs.ValueLemmas.{slice_get-some, slice_get-is, below_len-le, below_len-gt, below_len-most}
+use Rattle.std.proofs.Common.{◌+◌, ◌-◌, ◌/◌, ◌<◌, length, sym, ◌∙◌, arith}
+use Rattle.elias_fano.proofs.ValueLemmas.{slice_get-some, found_is, below_len-le, below_len-gt, below_len-most}
 use Rattle.elias_fano.proofs.list.below_by_halves.Goals as goal
-
--- a value that was found
-found : (vs : List ℕ) (i v : ℕ) → i < length vs → slice_get vs i ≡ Some v → get_or vs i 0 ≡ v
-found vs i v lt e = let same : Some (get_or vs i 0) ≡ Some v = sym (slice_get-is vs i 0 lt) ∙ e in cc
 
 pub loop-first-init : goal.loop-first-init
 loop-first-init c =
@@ -26,7 +21,7 @@ loop-first-preserved-then-value-bound c =
     let vs = c.args.list.now in
     let middle = c.loop-first.first + (c.loop-first.end - c.loop-first.first) / 2 in
     let lt : middle < length vs = omega (arith, c.loop-first.invariant.within, c.loop-first-test.true) in
-    let value = found vs middle c.unwrap-value.result lt (sym c.get.ensures ∙ c.unwrap-value.ensures) in
+    let value = found_is vs middle c.unwrap-value.result lt (sym c.get.ensures ∙ c.unwrap-value.ensures) in
     record {
       low = omega (arith, below_len-gt c.args.bound vs middle c.requires.rising lt (omega (arith, value, c.if-value-bound.true)));
       high = c.loop-first.invariant.high;
@@ -38,7 +33,7 @@ loop-first-preserved c =
     let vs = c.args.list.now in
     let middle = c.loop-first.first + (c.loop-first.end - c.loop-first.first) / 2 in
     let lt : middle < length vs = omega (arith, c.loop-first.invariant.within, c.loop-first-test.true) in
-    let value = found vs middle c.unwrap-value.result lt (sym c.get.ensures ∙ c.unwrap-value.ensures) in
+    let value = found_is vs middle c.unwrap-value.result lt (sym c.get.ensures ∙ c.unwrap-value.ensures) in
     record {
       low = c.loop-first.invariant.low;
       high = below_len-le c.args.bound vs middle (omega (arith, value, c.if-value-bound.false));

@@ -1,22 +1,14 @@
-use Rattle.std.proofs.Common.{◌≡◌, ℕ, ◌+◌, ◌-◌, ◌*◌, ◌^◌, ◌<◌, Bool, List, length, take, drop, get_or, Some, sym, ap, subst, ◌∙◌, arith}
+use Rattle.std.proofs.Common.{ℕ, ◌+◌, ◌*◌, ◌^◌, List, sym, ap, subst, ◌∙◌, arith}
 use Rattle.std.specs.Prelude.{IsSome}
 use Rattle.std.specs.List.{slice_get}
 use Rattle.std.proofs.lemmas.List.{drop_all}
-use Rattle.bit_vector.specs.Bits.{number_of, ones, places}
+use Rattle.bit_vector.specs.Bits.{places}
 use Rattle.elias_fano.specs.Spelling.{rises}
-use Rattle.elias_fano.specs.Values.{values_of, AreParts}
-use Rattle.elias_fano.proofs.ValueLemmas.{rises-nil, rises-drop_yes, rises-drop_no, parts-lt, parts-le, low-lt}
-use Rattle.elias_fano.proofs.PartLemmas.{IsPart, has_place, part_is, high-most}
+use Rattle.elias_fano.specs.Values.{values_of}
+use Rattle.elias_fano.proofs.ValueLemmas.{rises-nil, rises-drop_yes, rises-drop_no, parts-lt, parts-le}
+use Rattle.elias_fano.proofs.PartLemmas.{has_place, part_is, value_is, high-most}
 use Rattle.elias_fano.proofs.TextLemmas.{values-length}
 use Rattle.elias_fano.proofs.parts.do_rise.Goals as goal
-
--- the value of a part
-value_is : (count last w : ℕ) (low high : List Bool) (i place : ℕ) (here : ℕ × ℕ) → IsPart count last w low high i place → here.0 ≡ place - i →
-    here.1 ≡ number_of (take w (drop (i * w) low)) → (here.0 * 2 ^ w + here.1 ≡ get_or (values_of w low high) i 0) × (here.1 < 2 ^ w)
-value_is count last w low high i place here p high_is low_is = (
-  ap (λ (x : ℕ). x * 2 ^ w + here.1) high_is ∙ ap (λ (x : ℕ). (place - i) * 2 ^ w + x) low_is ∙ p.value,
-  subst (λ (x : ℕ). x < 2 ^ w) (sym low_is) (low-lt w (drop (i * w) low)),
-)
 
 pub unwrap-place-requires : goal.unwrap-place-requires
 unwrap-place-requires c =
@@ -88,4 +80,5 @@ returns c =
     let vs = values_of w c.args.low.now c.args.high.now in
     let n = values-length c.args.count c.args.last w c.args.low.now c.args.high.now c.requires in
     let b = c.loop-i.before * 2 ^ w + c.loop-i.low_before in
-    sym (rises-nil b) ∙ ap (λ (xs : List ℕ). rises b xs) (sym (drop_all c.loop-i.i vs (omega (arith, n, c.loop-i-test.false)))) ∙ c.loop-i.invariant.so_far
+    sym (rises-nil b) ∙ ap (λ (xs : List ℕ). rises b xs) (sym (drop_all c.loop-i.i vs (omega (arith, n, c.loop-i-test.false))))
+    ∙ c.loop-i.invariant.so_far

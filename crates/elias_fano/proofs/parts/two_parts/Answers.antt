@@ -1,26 +1,19 @@
-use Rattle.std.proofs.Common.{◌≡◌, ℕ, ◌+◌, ◌-◌, ◌*◌, ◌^◌, ◌<◌, Bool, List, length, take, drop, get_or, Some, sym, ap, subst, ◌∙◌, arith}
+use Rattle.std.proofs.Common.{◌≡◌, ℕ, ◌+◌, ◌*◌, ◌^◌, ◌<◌, Bool, List, take, drop, Some, sym, ap, subst, ◌∙◌, arith}
 use Rattle.std.specs.Prelude.{IsSome}
 use Rattle.std.specs.List.{slice_get}
-use Rattle.bit_vector.specs.Bits.{number_of, ones, places}
-use Rattle.elias_fano.specs.Values.{values_of, AreParts}
+use Rattle.bit_vector.specs.Bits.{ones, places}
+use Rattle.elias_fano.specs.Values.{AreParts}
 use Rattle.elias_fano.proofs.ValueLemmas.{low-lt}
-use Rattle.elias_fano.proofs.PartLemmas.{IsPart, has_place, part_is, high-most}
+use Rattle.elias_fano.proofs.PartLemmas.{IsPart, has_place, part_is, value_is, high-most}
 use Rattle.elias_fano.proofs.parts.two_parts.Goals as goal
 
 -- the part of the next value
-next_is : (count last w : ℕ) (low high : List Bool) (i place : ℕ) (r : Rattle.std.proofs.Common.Option ℕ) (next : ℕ) → AreParts count last w low high →
+next_is : (count last w : ℕ) (low high : List Bool) (i place : ℕ) (r : Rattle.std.proofs.Common.Option ℕ) (next : ℕ) →
+    AreParts count last w low high →
     i + 1 < count → IsPart count last w low high i place → r ≡ slice_get (places high) (ones (take (place + 1) high)) → r ≡ Some next →
     IsPart count last w low high (i + 1) next
 next_is count last w low high i place r next parts lt p e f =
     part_is count last w low high (i + 1) next parts lt (ap (λ (k : ℕ). slice_get (places high) k) (sym p.step) ∙ sym e ∙ f)
-
--- the value of a part
-value_is : (count last w : ℕ) (low high : List Bool) (i place : ℕ) (here : ℕ × ℕ) → IsPart count last w low high i place → here.0 ≡ place - i →
-    here.1 ≡ number_of (take w (drop (i * w) low)) → (here.0 * 2 ^ w + here.1 ≡ get_or (values_of w low high) i 0) × (here.1 < 2 ^ w)
-value_is count last w low high i place here p high_is low_is = (
-  ap (λ (x : ℕ). x * 2 ^ w + here.1) high_is ∙ ap (λ (x : ℕ). (place - i) * 2 ^ w + x) low_is ∙ p.value,
-  subst (λ (x : ℕ). x < 2 ^ w) (sym low_is) (low-lt w (drop (i * w) low)),
-)
 
 pub unwrap-place-requires : goal.unwrap-place-requires
 unwrap-place-requires c =

@@ -1,7 +1,8 @@
-use Rattle.std.proofs.Common.{◌≡◌, ℕ, ◌+◌, ◌*◌, ◌/◌, ◌^◌, ◌<◌, ◌≤◌, List, Bool, length, Ok, Err, sym, ap, ◌∙◌, subst, inl, inr, arith}
+use Rattle.std.proofs.Common.{◌≡◌, ℕ, ◌+◌, ◌*◌, ◌/◌, ◌^◌, ◌<◌, ◌≤◌, List, Bool, length, Ok, Err, sym, ap, ◌∙◌, subst}
+use Rattle.std.proofs.Common.{inl, inr, arith}
 use Rattle.bit_vector.specs.Bits.{words_for}
 use Rattle.elias_fano.specs.Spelling.{high_len, low_width}
-use Rattle.elias_fano.specs.Reading.{Fails, fault, run_at, checked, parts_at}
+use Rattle.elias_fano.specs.Reading.{Fails, IsShort, fault, run_at, checked, parts_at}
 use Rattle.std.proofs.lemmas.Result.{err_from_is_err_and}
 use Rattle.elias_fano.proofs.FormLemmas.{parts_at-low, parts_at-high, parts_at-check, parts_at-ok}
 use Rattle.elias_fano.proofs.LawLemmas.{ok_is, run_len}
@@ -70,7 +71,8 @@ returns-in_err-list-clause-values c =
     ≡ checked at (at + 8 + 8 * c.div_ceil.result) count last c.width_of-width.result c.in_ok-low.low c.in_ok-high-2.high =
     ap (λ (p : ℕ). checked at p count last w c.in_ok-low.low c.in_ok-high.high) place
     ∙ ap (λ (x : ℕ). checked at (at + 8 + 8 * c.div_ceil.result) count last x c.in_ok-low.low c.in_ok-high.high) (sym c.width_of-width.ensures.width)
-    ∙ ap (λ (bs : List Bool). checked at (at + 8 + 8 * c.div_ceil.result) count last c.width_of-width.result c.in_ok-low.low bs) (sym c.in_ok-high-2.ensures) in
+    ∙ ap (λ (bs : List Bool). checked at (at + 8 + 8 * c.div_ceil.result) count last c.width_of-width.result c.in_ok-low.low bs)
+    (sym c.in_ok-high-2.ensures) in
     let p = err_from_is_err_and c.from_residual-in_err-list.result c.from_residual-in_err-list.ensures.1 in
     rw (p.1, p.2) (parts_at-check c.in_err-list.field-0.0 at count last w bytes c.in_ok-low.low c.in_ok-high.high c.in_ok-low.rest.now c.in_ok-high.rest.now
     lows highs (rw same c.in_err-list.ensures))
@@ -96,17 +98,18 @@ returns-clause-values c =
     ≡ checked at (at + 8 + 8 * c.div_ceil.result) count last c.width_of-width.result c.in_ok-low.low c.in_ok-high-2.high =
     ap (λ (p : ℕ). checked at p count last w c.in_ok-low.low c.in_ok-high.high) place
     ∙ ap (λ (x : ℕ). checked at (at + 8 + 8 * c.div_ceil.result) count last x c.in_ok-low.low c.in_ok-high.high) (sym c.width_of-width.ensures.width)
-    ∙ ap (λ (bs : List Bool). checked at (at + 8 + 8 * c.div_ceil.result) count last c.width_of-width.result c.in_ok-low.low bs) (sym c.in_ok-high-2.ensures) in
+    ∙ ap (λ (bs : List Bool). checked at (at + 8 + 8 * c.div_ceil.result) count last c.width_of-width.result c.in_ok-low.low bs)
+    (sym c.in_ok-high-2.ensures) in
     parts_at-ok at count last w bytes c.in_ok-low.low c.in_ok-high.high c.in_ok-low.rest.now c.in_ok-high.rest.now c.in_ok-list.list lows highs (same
     ∙ c.in_ok-list.ensures)
 
 -- the low bits are short, or the high bits are where there are no low ones
-low_short : (at count last w width place : ℕ) (bytes : List ℕ) → width ≡ w → 0 < count * width → 8 * words_for (count * width) ≤ length bytes →
-    place ≤ at + 8 → parts_at at count last w bytes ≡ Err (fault place 1) → ⊥
-low_short at count last w width place bytes same some long le short =
+low_short : (at count last w width place : ℕ) (bytes : List ℕ) → width ≡ w → 0 < count * width →
+    (IsShort (run_at (at + 8) (count * width) bytes) → ⊥) → place ≤ at + 8 → parts_at at count last w bytes ≡ Err (fault place 1) → ⊥
+low_short at count last w width place bytes same some enough le short =
     let wide : count * width ≡ count * w = ap (λ (x : ℕ). count * x) same in
     elim (parts_short at count last w place bytes short) [
-      | inl low ↦ absurd (omega (arith, (run_short (at + 8) (count * w) place bytes low).1, wide, long))
+      | inl low ↦ absurd (enough (place, ap (λ (n : ℕ). run_at (at + 8) n bytes) wide ∙ low))
       | inr high ↦
           let p = run_short (at + 8 + 8 * words_for (count * w)) (high_len count last w) place high.0.1 high.2 in
           absurd (omega (arith, p.0, le, wide, some))
@@ -114,14 +117,15 @@ low_short at count last w width place bytes same some long le short =
 
 -- the low bits are read, and the high bits are long enough
 high_short : (at count last w place : ℕ) (bytes : List ℕ) (low : List Bool × List ℕ) → run_at (at + 8) (count * w) bytes ≡ Ok low →
-    8 * words_for (high_len count last w) ≤ length low.1 → parts_at at count last w bytes ≡ Err (fault place 1) → ⊥
-high_short at count last w place bytes low read long short =
+    (IsShort (run_at (at + 8 + 8 * words_for (count * w)) (high_len count last w) low.1) → ⊥) →
+    parts_at at count last w bytes ≡ Err (fault place 1) → ⊥
+high_short at count last w place bytes low read enough short =
     elim (parts_short at count last w place bytes short) [
       | inl first ↦ absurd (not_both (sym read ∙ first))
       | inr high ↦
           let same : low ≡ high.0 = ok_is low high.0 (sym read ∙ high.1) in
-          let p = run_short (at + 8 + 8 * words_for (count * w)) (high_len count last w) place high.0.1 high.2 in
-          absurd (omega (arith, p.1, long, ap (λ (x : List Bool × List ℕ). length x.1) same))
+          let at_high = ap (λ (x : List Bool × List ℕ). run_at (at + 8 + 8 * words_for (count * w)) (high_len count last w) x.1) same in
+          absurd (enough (place, at_high ∙ high.2))
     ]
 
 -- both are read
@@ -170,11 +174,8 @@ returns-in_err-high-clause-short c =
     let p = err_from_is_err_and c.from_residual-in_err-high.result c.from_residual-in_err-high.ensures.1 in
     tells at e _ _ (p.1 ∙ ap Err p.2)
     (parts_at-high e at count last w bytes c.in_ok-low.low c.in_ok-low.rest.now lows (rw moved c.in_err-high.ensures.bits))
-    (λ lacks there le short. high_short at count last w there bytes (c.in_ok-low.low, c.in_ok-low.rest.now) lows (omega (
-      arith,
-      size,
-      c.in_err-high.ensures.memory (ap Err lacks),
-    )) short)
+    (λ lacks there le short. high_short at count last w there bytes (c.in_ok-low.low, c.in_ok-low.rest.now) lows
+    (λ few. c.in_err-high.ensures.memory (ap Err lacks) (few.0, sym moved ∙ few.1)) short)
 
 pub returns-in_err-high-2-clause-short : goal.returns-in_err-high-2-clause-short
 returns-in_err-high-2-clause-short c =

@@ -15,5 +15,6 @@ loop-i-preserved c =
     let bytes = c.args.bytes.now in
     let i = c.loop-i.i in
     let so_far : c.loop-i.words.items ≡ old ++ words_in i bytes = c.loop-i.invariant in
-    c.in_ok-push.ensures.items ∙ ap (λ (ws : List ℕ). ws ++ c.number_in.result ∷ []) so_far ∙ append_assoc old (words_in i bytes) (c.number_in.result ∷ [])
+    c.in_ok-push.ensures.items ∙ ap (λ (ws : List ℕ). ws ++ c.number_in.result ∷ []) so_far
+    ∙ append_assoc old (words_in i bytes) (c.number_in.result ∷ [])
     ∙ ap (λ (n : ℕ). old ++ (words_in i bytes ++ n ∷ [])) c.number_in.ensures ∙ ap (λ (ws : List ℕ). old ++ ws) (sym (words_in-more i bytes))

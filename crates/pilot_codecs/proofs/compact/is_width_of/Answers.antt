@@ -1,4 +1,5 @@
-use Rattle.std.proofs.Common.{◌≡◌, ℕ, ◌*◌, ◌+◌, ◌-◌, ◌/◌, ◌%◌, ◌^◌, ◌<◌, ◌≤◌, List, length, get_or, refl, sym, ap, subst, ◌∙◌, inl, inr, arith}
+use Rattle.std.proofs.Common.{◌≡◌, ℕ, ◌*◌, ◌+◌, ◌-◌, ◌/◌, ◌%◌, ◌^◌, ◌<◌, ◌≤◌, List, length, get_or, refl, sym, ap}
+use Rattle.std.proofs.Common.{subst, ◌∙◌, inl, inr, arith}
 use Rattle.std.proofs.lemmas.Bool.{false≢true, cases_lt}
 use Rattle.std.proofs.lemmas.Nat.{one_shl}
 use Rattle.bit_vector.specs.Bits.{bits_of, words_number}
@@ -15,7 +16,8 @@ returns-then-width-eq1 c =
     let w = c.args.width in
     let fs = fields c.args.count w (bits_of (c.args.count * w) (words_number c.args.words.now)) in
     let fits : greatest fs < 2 ^ 1 =
-    subst (λ (k : ℕ). greatest fs < 2 ^ k) c.if-width-eq1.true (greatest-fields c.args.count w (bits_of (c.args.count * w) (words_number c.args.words.now))) in
+    subst (λ (k : ℕ). greatest fs < 2 ^ k) c.if-width-eq1.true
+    (greatest-fields c.args.count w (bits_of (c.args.count * w) (words_number c.args.words.now))) in
     (λ _. one_digit (greatest fs) fits ∙ sym c.if-width-eq1.true, λ _. refl)
 
 pub returns-then-bits_at-top : goal.returns-then-bits_at-top

@@ -6,6 +6,7 @@ use Rattle.pilot_codecs.specs.Spelling.{digits_of, greatest}
 use Rattle.pilot_codecs.specs.Parts.{values_in, IsCompact}
 use Rattle.pilot_codecs.proofs.CompactLemmas.{packed_at-short, packed_at-width, packed_at-padding, packed_at-ok}
 use Rattle.pilot_codecs.proofs.HeadLemmas.{words_read}
+use Rattle.pilot_codecs.proofs.ShortLaws.{packed_short}
 use Rattle.pilot_codecs.proofs.compact.read_packed.Goals as goal
 
 pub returns-then-bytes-size-clause-values : goal.returns-then-bytes-size-clause-values
@@ -88,3 +89,9 @@ returns-clause-compact c =
       packed_are = subst (λ (k : ℕ). IsPacked read k) wide (c.if-not-is_packed.ensures.0 refl);
     } in
     subst (λ (xs : List ℕ). IsCompact count w xs) (r.read_is ∙ sym r.new_is) made
+
+pub returns-in_err-append_words-clause-memory : goal.returns-in_err-append_words-clause-memory
+returns-in_err-append_words-clause-memory c = λ lacks short.
+    let few = (packed_short c.args.at c.args.count c.args.width short.0 c.args.bytes.now short.1).1 in
+    let wide : c.args.count * c.from.result ≡ c.args.count * c.args.width = ap (λ (x : ℕ). c.args.count * x) c.from.ensures in
+    omega (arith, few, wide, c.if-bytes-size.false, c.div_ceil-size.ensures)

@@ -1,7 +1,7 @@
 use Rattle.std.proofs.Common.{Err, inl, inr, sym, ap, ◌∙◌, arith}
 use Rattle.std.proofs.lemmas.Result.{err_from_is_err_and}
 use Rattle.pilot_codecs.proofs.CompactLemmas.{compact_at-number, compact_at-width, compact_at-packed}
-use Rattle.pilot_codecs.proofs.ShortLaws.{lacks_is, packed_short}
+use Rattle.pilot_codecs.proofs.ShortLaws.{lacks_is}
 use Rattle.pilot_codecs.proofs.compact.read_values.Goals as goal
 
 pub returns-in_err-width-clause-values : goal.returns-in_err-width-clause-values
@@ -34,8 +34,7 @@ returns-in_err-width-clause-memory c = λ lacks short.
 pub returns-in_err-after-clause-memory : goal.returns-in_err-after-clause-memory
 returns-in_err-after-clause-memory c = λ lacks short.
     let p = err_from_is_err_and c.from_residual-in_err-after.result c.from_residual-in_err-after.ensures.1 in
-    let long = c.in_err-after.ensures.memory
-    (ap Err (lacks_is c.in_err-after.field-0.0 c.from_residual-in_err-after.result (p.1 ∙ ap Err p.2) lacks)) in
     let packed = compact_at-packed c.args.at c.args.count c.in_ok-width.width c.args.bytes.now c.in_ok-width.rest.now c.in_ok-width.ensures.value
     c.if-width-eq0.false c.if-width-gt64.false in
-    omega (arith, long, (packed_short c.args.at c.args.count c.in_ok-width.width short.0 c.in_ok-width.rest.now (sym packed ∙ short.1)).1)
+    c.in_err-after.ensures.memory
+    (ap Err (lacks_is c.in_err-after.field-0.0 c.from_residual-in_err-after.result (p.1 ∙ ap Err p.2) lacks)) (short.0, sym packed ∙ short.1)

@@ -12,8 +12,9 @@ returns-in_err-places-clause-values c =
     let ds = c.args.entries.items in
     let size : c.len-size.result ≡ length ds = omega (arith, c.len-size.ensures, c.args.entries.ok.0) in
     let p = err_from_is_err_and c.from_residual.result c.from_residual.ensures.1 in
-    rw (p.1, p.2) (indexed_at-places c.in_err-places.field-0.0 c.args.at c.args.count ds c.args.bytes.now
-    (subst (λ (k : ℕ). Fails c.in_err-places.field-0.0 (compact_at (c.args.at + 8 + 8 * k) c.args.count c.args.bytes.now)) size c.in_err-places.ensures.values))
+    let e = c.in_err-places.field-0.0 in
+    rw (p.1, p.2) (indexed_at-places e c.args.at c.args.count ds c.args.bytes.now
+    (subst (λ (k : ℕ). Fails e (compact_at (c.args.at + 8 + 8 * k) c.args.count c.args.bytes.now)) size c.in_err-places.ensures.values))
 
 pub returns-in_err-dict-clause-values : goal.returns-in_err-dict-clause-values
 returns-in_err-dict-clause-values c =

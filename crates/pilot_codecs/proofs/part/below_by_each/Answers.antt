@@ -1,15 +1,8 @@
-use Rattle.std.proofs.Common.{◌≡◌, ℕ, ◌+◌, ◌<◌, ◌≤◌, List, length, get_or, Some, sym, ◌∙◌, arith}
-use Rattle.std.specs.List.{slice_get}
-use Rattle.elias_fano.specs.Values.{below_len}
-use Rattle.elias_fano.proofs.CallerLemmas.{slice_get-some, slice_get-is, below_len-le, below_len-most}
+use Rattle.std.proofs.Common.{◌<◌, length, sym, ◌∙◌, arith}
+use Rattle.elias_fano.proofs.CallerLemmas.{slice_get-some, found_is, below_len-le, below_len-most}
 use Rattle.pilot_codecs.specs.Values.{values_of}
-use Rattle.pilot_codecs.proofs.DictLemmas.{some_is}
 use Rattle.pilot_codecs.proofs.BelowLemmas.{below_more}
 use Rattle.pilot_codecs.proofs.part.below_by_each.Goals as goal
-
--- a value that was found
-found : (vs : List ℕ) (i v : ℕ) → i < length vs → slice_get vs i ≡ Some v → get_or vs i 0 ≡ v
-found vs i v lt e = some_is (get_or vs i 0) v (sym (slice_get-is vs i 0 lt) ∙ e)
 
 pub unwrap-value-requires : goal.unwrap-value-requires
 unwrap-value-requires c =
@@ -20,7 +13,7 @@ returns-then-value-bound c =
     let vs = values_of c.args.part.now in
     let i = c.loop-i.i in
     let lt : i < length vs = omega (arith, c.loop-i-test.true, c.part_len-len.ensures) in
-    let value = found vs i c.unwrap-value.result lt (sym c.part_get.ensures ∙ c.unwrap-value.ensures) in
+    let value = found_is vs i c.unwrap-value.result lt (sym c.part_get.ensures ∙ c.unwrap-value.ensures) in
     omega (arith, c.loop-i.invariant, below_len-le c.args.bound vs i (omega (arith, value, c.if-value-bound.true)))
 
 pub loop-i-preserved : goal.loop-i-preserved
@@ -28,7 +21,7 @@ loop-i-preserved c =
     let vs = values_of c.args.part.now in
     let i = c.loop-i.i in
     let lt : i < length vs = omega (arith, c.loop-i-test.true, c.part_len-len.ensures) in
-    let value = found vs i c.unwrap-value.result lt (sym c.part_get.ensures ∙ c.unwrap-value.ensures) in
+    let value = found_is vs i c.unwrap-value.result lt (sym c.part_get.ensures ∙ c.unwrap-value.ensures) in
     below_more c.args.bound vs i c.loop-i.invariant lt (omega (arith, value, c.if-value-bound.false))
 
 pub returns : goal.returns

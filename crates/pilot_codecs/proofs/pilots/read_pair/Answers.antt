@@ -52,7 +52,8 @@ invariant_of-result-in-Some c =
     let u = code_takes c.in-Some.code place (c.args.count - n) rest ys c.in_ok-back-in-Some.rest.now t.0.rest_fits (omega (arith, c.requires.few))
     c.in_ok-back-in-Some.ensures.values in
     let size : length (xs ++ ys) ≡ c.args.count = omega (arith, length-append xs ys, t.0.count_is, u.0.count_is, fewer) in
-    let cut : length xs ≡ front_count_of (length (xs ++ ys)) = t.0.count_is ∙ c.front_count-first.ensures ∙ ap (λ (k : ℕ). front_count_of k) (sym size) in
+    let cut : length xs ≡ front_count_of (length (xs ++ ys)) = t.0.count_is ∙ c.front_count-first.ensures
+    ∙ ap (λ (k : ℕ). front_count_of k) (sym size) in
     let first = subst (λ (code : Code). Fits code xs) (sym c.in_ok-front-in-Some.ensures.code) t.1 in
     let second = subst (λ (code : Code). Fits code ys) (sym c.in_ok-back-in-Some.ensures.code) u.1 in
     record {

@@ -21,5 +21,6 @@ returns c =
     ap (λ (n : ℕ). count_ones (n % 2 ^ at)) (words_number-packed bits) ∙ sym (ones-take bits at (omega (arith, c.requires, ap length c.self.view_is))) in
     let given = subst (λ (ws : List ℕ). MatchOption c.next_one.result (all_ones ws ≤ count_ones (words_number ws % 2 ^ at))
     (λ p. IsOneAt (words_number ws) (count_ones (words_number ws % 2 ^ at)) p)) c.words.ensures c.next_one.ensures in
-    let by_ones = subst (λ (i : ℕ). MatchOption c.next_one.result (all_ones (packed bits) ≤ i) (λ p. IsOneAt (words_number (packed bits)) i p)) number given in
+    let by_ones = subst (λ (i : ℕ). MatchOption c.next_one.result (all_ones (packed bits) ≤ i)
+    (λ p. IsOneAt (words_number (packed bits)) i p)) number given in
     select_is bits (ones (take at bits)) c.next_one.result by_ones ∙ ap (λ (bs : List Bool). slice_get (places bs) (ones (take at bs))) c.self.view_is

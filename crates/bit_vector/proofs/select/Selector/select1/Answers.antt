@@ -11,6 +11,7 @@ place_of-requires-clause-most c = omega (arith, ap length c.words.ensures, lengt
 
 pub returns : goal.returns
 returns c =
-    let given = subst (λ (ws : List ℕ). MatchOption c.place_of.result (all_ones ws ≤ c.args.i) (λ p. IsOneAt (words_number ws) c.args.i p)) c.words.ensures
+    let given = subst (λ (ws : List ℕ). MatchOption c.place_of.result (all_ones ws ≤ c.args.i)
+    (λ p. IsOneAt (words_number ws) c.args.i p)) c.words.ensures
     c.place_of.ensures in
     select_is c.self.inside.bits c.args.i c.place_of.result given ∙ ap (λ (bs : List Bool). slice_get (places bs) c.args.i) c.self.view_is

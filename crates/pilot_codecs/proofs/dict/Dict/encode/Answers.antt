@@ -21,7 +21,8 @@ invariant_of-result c =
     let vs = c.args.values.now in
     let entries : c.in_ok-entries.entries.items ≡ distinct vs = c.in_ok-entries.ensures in
     let places : c.in_ok-places.places ≡ map (index_in (distinct vs)) vs =
-    c.in_ok-places.ensures ∙ c.deref-2.ensures.value ∙ c.in_ok-indexes.ensures ∙ ap (λ (ds : List ℕ). map (index_in ds) vs) (c.deref.ensures.value ∙ entries) in
+    c.in_ok-places.ensures ∙ c.deref-2.ensures.value ∙ c.in_ok-indexes.ensures
+    ∙ ap (λ (ds : List ℕ). map (index_in ds) vs) (c.deref.ensures.value ∙ entries) in
     let made : IsDictOf vs c.in_ok-entries.entries.items c.in_ok-places.places =
     subst (λ (ds : List ℕ). IsDictOf vs ds c.in_ok-places.places) (sym entries)
     (subst (λ (ps : List ℕ). IsDictOf vs (distinct vs) ps) (sym places) (dict_made vs)) in
@@ -32,7 +33,8 @@ returns c =
     let vs = c.args.values.now in
     let entries : c.in_ok-entries.entries.items ≡ distinct vs = c.in_ok-entries.ensures in
     let places : c.in_ok-places.places ≡ map (index_in (distinct vs)) vs =
-    c.in_ok-places.ensures ∙ c.deref-2.ensures.value ∙ c.in_ok-indexes.ensures ∙ ap (λ (ds : List ℕ). map (index_in ds) vs) (c.deref.ensures.value ∙ entries) in
+    c.in_ok-places.ensures ∙ c.deref-2.ensures.value ∙ c.in_ok-indexes.ensures
+    ∙ ap (λ (ds : List ℕ). map (index_in ds) vs) (c.deref.ensures.value ∙ entries) in
     let made : IsDictOf vs c.in_ok-entries.entries.items c.in_ok-places.places =
     subst (λ (ds : List ℕ). IsDictOf vs ds c.in_ok-places.places) (sym entries)
     (subst (λ (ps : List ℕ). IsDictOf vs (distinct vs) ps) (sym places) (dict_made vs)) in

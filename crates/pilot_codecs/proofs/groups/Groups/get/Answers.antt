@@ -1,4 +1,5 @@
-use Rattle.std.proofs.Common.{◌≡◌, ℕ, ◌*◌, ◌/◌, ◌%◌, ◌^◌, ◌<◌, ◌≤◌, List, [], length, map, get_or, sym, ap, ◌∙◌, subst, arith}
+use Rattle.std.proofs.Common.{◌≡◌, ℕ, ◌*◌, ◌/◌, ◌%◌, ◌^◌, ◌<◌, ◌≤◌, List, [], length, map, get_or, sym, ap, ◌∙◌}
+use Rattle.std.proofs.Common.{subst, arith}
 use Rattle.std.proofs.lemmas.Nat.{mul-le}
 use Rattle.bit_vector.specs.Bits.{words_number}
 use Rattle.pilot_codecs.specs.Spelling.{greatest}
@@ -59,4 +60,5 @@ returns c =
     let read : c.words_of.result.now ≡ words_under words head = c.words_of.ensures ∙ ap (λ (ws : List ℕ). words_under ws head) c.deref.ensures.value in
     c.bits_at.ensures ∙ ap (λ (ws : List ℕ). words_number ws / 2 ^ (c.args.i * c.from.result) % 2 ^ head.width) read
     ∙ value_at head.count head.width c.args.i (c.args.i * c.from.result) (words_under words head) h.inside place
-    ∙ ap (λ (vs : List ℕ). get_or vs c.args.i 0) (sym h.values) ∙ ap (λ (gs : List (List ℕ)). get_or (get_or gs c.args.group []) c.args.i 0) c.self.view_is
+    ∙ ap (λ (vs : List ℕ). get_or vs c.args.i 0) (sym h.values)
+    ∙ ap (λ (gs : List (List ℕ)). get_or (get_or gs c.args.group []) c.args.i 0) c.self.view_is

@@ -22,6 +22,8 @@ loop-head-preserved c =
     let head_is : head ≡ get_or heads i head = ap (λ (hs : List Head). get_or hs i none) c.deref-head-items.ensures.value
     ∙ get_or_default heads i none head lt in
     let read : c.words_of.result.now ≡ words_under words head = c.words_of.ensures ∙ ap (λ (ws : List ℕ). words_under ws head) c.deref.ensures.value in
-    let text_is : text ≡ number head.width ++ flat_map number (words_under words head) = ap (λ (ws : List ℕ). number head.width ++ flat_map number ws) read in
-    c.in_ok-put_values.ensures.ok ∙ ap (λ (t : List ℕ). t ++ text) so_far ∙ append_assoc old (flat_map compact_text (map (group_in words) (take i heads))) text
+    let text_is : text ≡ number head.width ++ flat_map number (words_under words head) =
+    ap (λ (ws : List ℕ). number head.width ++ flat_map number ws) read in
+    c.in_ok-put_values.ensures.ok ∙ ap (λ (t : List ℕ). t ++ text) so_far
+    ∙ append_assoc old (flat_map compact_text (map (group_in words) (take i heads))) text
     ∙ ap (λ (t : List ℕ). old ++ t) (sym (texts-more words text heads i head c.self.invariant lt head_is text_is))

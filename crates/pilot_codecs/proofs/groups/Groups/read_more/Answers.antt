@@ -64,7 +64,8 @@ pub returns-in_err-push-clause-err : goal.returns-in_err-push-clause-err
 returns-in_err-push-clause-err c =
     let p = err_from_is_err_and c.from_residual-in_err-push.result c.from_residual-in_err-push.ensures.1 in
     rw (p.1, c.in_err-push.ensures.items)
-    (groups-kept c.self.inside.words.items c.read_values.new.words.items c.self.inside.heads.items c.read_values.ensures.kept c.self.invariant ∙ c.self.view_is)
+    (groups-kept c.self.inside.words.items c.read_values.new.words.items c.self.inside.heads.items c.read_values.ensures.kept c.self.invariant
+    ∙ c.self.view_is)
 
 pub returns-in_err-width-clause-memory : goal.returns-in_err-width-clause-memory
 returns-in_err-width-clause-memory c = λ lacks short.

@@ -11,9 +11,11 @@ pub loop-rest-preserved : goal.loop-rest-preserved
 loop-rest-preserved c =
     let rest = c.loop-rest.rest.now in
     let lt : 0 < length rest = omega (arith, eqb-false (length rest) 0 (sym c.is_empty.ensures ∙ c.loop-rest-test.true)) in
-    let front : c.split_at.result.0.now ≡ take 256 rest = c.split_at.ensures.front ∙ ap (λ (k : ℕ). take k rest) (c.min.ensures ∙ min_comm (length rest) 256)
+    let front : c.split_at.result.0.now ≡ take 256 rest = c.split_at.ensures.front
+    ∙ ap (λ (k : ℕ). take k rest) (c.min.ensures ∙ min_comm (length rest) 256)
     ∙ take_min 256 rest in
-    let back : c.split_at.result.1.now ≡ drop 256 rest = c.split_at.ensures.back ∙ ap (λ (k : ℕ). drop k rest) (c.min.ensures ∙ min_comm (length rest) 256)
+    let back : c.split_at.result.1.now ≡ drop 256 rest = c.split_at.ensures.back
+    ∙ ap (λ (k : ℕ). drop k rest) (c.min.ensures ∙ min_comm (length rest) 256)
     ∙ drop_min 256 rest in
     record {
       so_far = rw (back, c.in_ok-push.ensures.ok, front)

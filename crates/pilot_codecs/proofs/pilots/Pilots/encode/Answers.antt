@@ -47,5 +47,6 @@ invariant_of-result-in-Some c =
     let small : greatest (xs ++ ys) < 2 ^ 32 = omega (arith, ap (λ (t : List ℕ). greatest t) whole, all_small vs c.requires.small) in
     let share : n ≤ length vs = omega (arith, c.front_count.ensures) in
     let size : length xs ≡ n = omega (arith, ap length front, length-take n vs, share) in
-    let cut : length xs ≡ front_count_of (length (xs ++ ys)) = size ∙ c.front_count.ensures ∙ ap (λ (t : List ℕ). front_count_of (length t)) (sym whole) in
+    let cut : length xs ≡ front_count_of (length (xs ++ ys)) = size ∙ c.front_count.ensures
+    ∙ ap (λ (t : List ℕ). front_count_of (length t)) (sym whole) in
     record { split = (cut, few); fit = split_small (code_of c.in_ok-front-in-Some.front) (Some (code_of c.in_ok-back-in-Some.back)) (xs ++ ys) few small }
