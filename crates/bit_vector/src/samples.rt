@@ -137,7 +137,8 @@ fn word_of_one(words: &[u64], from: usize, i: u64) -> (usize, u32)
 
 // How many bits to pass, and the ones among them: the lower half where that one is not in it.
 fn passed(left: u32, low: u32, half: u32) -> (u32, u32)
-    ensures { ((left < low) × (result ≡ (0, 0))) ⊎ ((low ≤ left) × (result ≡ (half, low))) }
+    ensures { ((left < low) × (result ≡ (0, 0)))
+        ⊎ ((low ≤ left) × (result ≡ (half, low))) }
 {
     if left < low { (0, 0) } else { (half, low) }
 }
@@ -212,7 +213,8 @@ pub fn next_one(words: &[u64], from: u64) -> Option<u64>
     requires most { length words.now ≤ 2 ^ 36 }
     ensures { MatchOption result
         (all_ones words.now ≤ count_ones (words_number words.now % 2 ^ from))
-        (λ p. IsOneAt (words_number words.now) (count_ones (words_number words.now % 2 ^ from)) p) }
+        (λ p. IsOneAt (words_number words.now)
+        (count_ones (words_number words.now % 2 ^ from)) p) }
 {
     let first = (from / 64) as usize;
     if first >= words.len() {

@@ -100,7 +100,8 @@ impl Dict {
 // Appends the size, the entries and the indexes; on want of memory a part of them.
 fn put_entries(out: &mut Vec<u8>, entries: &[u64], places: &Compact) -> Result<(), NoMemory>
     ensures ok { OnOk result (out.new.items ≡ out.old.items
-        ++ (number (length entries.now) ++ flat_map number entries.now ++ compact_text places.now)) }
+        ++ (number (length entries.now) ++ flat_map number entries.now
+        ++ compact_text places.now)) }
     ensures kept { take (length out.old.items) out.new.items ≡ out.old.items }
 {
     put_numbers(out, &[entries.len() as u64])?;

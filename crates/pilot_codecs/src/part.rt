@@ -125,7 +125,8 @@ pub fn read_part(
 ) -> Result<(Part, &[u8]), ReadErr>
     requires few { count ≤ 2 ^ 30 }
     requires place { at + length bytes.now ≤ 2 ^ 63 }
-    ensures values { Gives (λ x. (values_of x.0, x.1.now)) result (code_at code at count bytes.now) }
+    ensures values { Gives (λ x. (values_of x.0, x.1.now)) result
+        (code_at code at count bytes.now) }
     ensures code { IfOk result (λ x. code_of x.0 ≡ code) }
     ensures short { TellsShort at result (code_at code at count bytes.now) }
 {

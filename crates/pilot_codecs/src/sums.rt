@@ -87,7 +87,8 @@ impl Sums {
 
     /// Appends the spelling; on want of memory a part of it.
     pub fn put(&self, out: &mut Vec<u8>) -> Result<(), NoMemory>
-        ensures ok { OnOk result (out.new.items ≡ out.old.items ++ ef_text (sums_from 0 self.now)) }
+        ensures ok { OnOk result
+            (out.new.items ≡ out.old.items ++ ef_text (sums_from 0 self.now)) }
         ensures kept { take (length out.old.items) out.new.items ≡ out.old.items }
     {
         self.list.write(out)?;
