@@ -1,5 +1,6 @@
 -- How a record comes to the end of a chain: in its last block, or in one more.
-use Rattle.std.proofs.Common.{◌≡◌, ◌≢◌, ℕ, suc, ◌+◌, ◌-◌, ◌*◌, ◌/◌, ◌%◌, ◌<◌, ◌≤◌, List, length, get_or, set, sym, ap, ◌∙◌, subst, inl, inr, arith}
+use Rattle.std.proofs.Common.{◌≡◌, ◌≢◌, ℕ, suc, ◌+◌, ◌-◌, ◌*◌, ◌/◌, ◌%◌, ◌<◌, ◌≤◌}
+use Rattle.std.proofs.Common.{List, length, get_or, set, sym, ap, ◌∙◌, subst, inl, inr, arith}
 use Rattle.std.proofs.lemmas.Bool.{cases_eq}
 use Rattle.std.proofs.lemmas.List.{get_or-set_same, get_or-set_other, length-set}
 use Rattle.std.proofs.lemmas.List.Sums.{sum_by-set, get_or-le-sum_by}
@@ -83,7 +84,8 @@ module _ (next spare : List ℕ) (count made : ℕ) (chains : List Chain) (linke
           }
 
       -- a later block of the chain
-      goes_on : 0 < (held_at chains c).len → new ≡ set next (held_at chains c).tail b → x.head ≡ (held_at chains c).head → Extends next new chains c x b
+      goes_on : 0 < (held_at chains c).len → new ≡ set next (held_at chains c).tail b → x.head ≡ (held_at chains c).head →
+          Extends next new chains c x b
       unfolding block_from
       goes_on some is head =
           let q : ℕ = ((held_at chains c).len - 1) / 1024 in
@@ -115,8 +117,10 @@ module _ (next spare : List ℕ) (count made : ℕ) (chains : List Chain) (linke
             own = λ d k h at. absurd (fresh d k h at);
           }
 
+      -- the first block of the chain, or a later one
       pub extends_begun : ((held_at chains c).len ≡ 0 → new ≡ next) → (0 < (held_at chains c).len → new ≡ set next (held_at chains c).tail b)
-          → ((held_at chains c).len ≡ 0 → x.head ≡ b) → (0 < (held_at chains c).len → x.head ≡ (held_at chains c).head) → Extends next new chains c x b
+          → ((held_at chains c).len ≡ 0 → x.head ≡ b) → (0 < (held_at chains c).len → x.head ≡ (held_at chains c).head)
+          → Extends next new chains c x b
       extends_begun first later head_first head_later =
           elim (cases_eq (held_at chains c).len 0) [
             | inl none ↦ begins none (first none) (head_first none)
@@ -130,7 +134,8 @@ module _ (next spare : List ℕ) (count made : ℕ) (chains : List Chain) (linke
         → (held.len ≡ 0 → x.head ≡ b) → (0 < held.len → x.head ≡ held.head) → Extends next new chains c x b
     extends_linked new b full tail fresh held is first later head_first head_later =
         let P : Chain → Type 0 = λ h.
-        ((h.len ≡ 0 → new ≡ next) × (0 < h.len → new ≡ set next h.tail b)) × ((h.len ≡ 0 → x.head ≡ b) × (0 < h.len → x.head ≡ h.head)) in
+        ((h.len ≡ 0 → new ≡ next) × (0 < h.len → new ≡ set next h.tail b)) ×
+        ((h.len ≡ 0 → x.head ≡ b) × (0 < h.len → x.head ≡ h.head)) in
         let all : P (held_at chains c) = subst P is ((first, later), (head_first, head_later)) in
         extends_begun new b full tail fresh all.0.0 all.0.1 all.1.0 all.1.1
 
@@ -138,6 +143,7 @@ module _ (next spare : List ℕ) (count made : ℕ) (chains : List Chain) (linke
     pub counted-within : 0 < (held_at chains c).len % 1024 → sum_by block_count (set chains c x) ≡ sum_by block_count chains
     counted-within room = let sums = sum_by-set block_count chains c x NO_CHAIN present in omega arith
 
+    -- a full last block takes one block more
     pub counted-begun : (held_at chains c).len % 1024 ≡ 0 → sum_by block_count (set chains c x) ≡ sum_by block_count chains + 1
     counted-begun full = let sums = sum_by-set block_count chains c x NO_CHAIN present in omega arith
 

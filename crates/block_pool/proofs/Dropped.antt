@@ -51,6 +51,7 @@ module _ (next : List ℕ) (chains : List Chain) (c : ℕ) (x : Chain) (drops : 
     pub same : block_at next after d k ≡ block_at next chains d place
     pub moved : ((d ≡ c) × (place ≡ suc k)) ⊎ ((d ≢ c) × (place ≡ k))
 
+  -- each block of the chains stood at one place
   stood : (d k : ℕ) → HasBlock after d k → Stood d k
   stood d k has =
       elim (cases_eq d c) [
@@ -105,9 +106,11 @@ module _ (next : List ℕ) (chains : List Chain) (c : ℕ) (x : Chain) (drops : 
     abbrev spares : List ℕ
     spares = set spare count block
 
+    -- the chain has a first block
     first : HasBlock chains c 0
     first = drops.some
 
+    -- which is where its head leads
     first_is : block_at next chains c 0 ≡ block
     unfolding block_from
     first_is = refl
@@ -120,6 +123,7 @@ module _ (next : List ℕ) (chains : List Chain) (c : ℕ) (x : Chain) (drops : 
         let long = drops.len in
         omega arith
 
+    -- there is room for one more spare block
     pub room-dropped : count < length spare
     room-dropped =
         let counted = old.counted in
@@ -127,6 +131,7 @@ module _ (next : List ℕ) (chains : List Chain) (c : ℕ) (x : Chain) (drops : 
         let within = old.made_within in
         omega (arith, fewer)
 
+    -- a spare block is the one that was dropped, or was spare
     spare_at : (k : ℕ) → k < count + 1 → ((k ≡ count) × (get_or spares k 0 ≡ block)) ⊎ ((k < count) × (get_or spares k 0 ≡ get_or spare k 0))
     spare_at k within =
         elim (cases_eq k count) [
@@ -134,6 +139,7 @@ module _ (next : List ℕ) (chains : List Chain) (c : ℕ) (x : Chain) (drops : 
           | inr before ↦ inr (omega arith, get_or-set_other spare count k block 0 before)
         ]
 
+    -- the chains stay linked, and the block is spare
     pub linked-dropped : IsLinked next spares (count + 1) made after
     linked-dropped =
         record {
@@ -189,6 +195,7 @@ module _ (next : List ℕ) (chains : List Chain) (c : ℕ) (x : Chain) (drops : 
           tails = tails old.tails;
         }
 
+  -- the chain has lost the records of one block
   pub view-dropped : (records : List Record)
       → map (records_of records next) after
       ≡ set (map (records_of records next) chains) c (drop 1024 (get_or (map (records_of records next) chains) c []))

@@ -134,6 +134,7 @@ module _ (next new : List ℕ) (chains : List Chain) (c : ℕ) (x : Chain) (b : 
         ap (λ (block : ℕ). get_or written (block * 1024 + i % 1024) NO_RECORD) (extends.kept d (i / 1024) has)
         ∙ others place (omega arith) apart
 
+    -- the chain has one record more, the others are as they were
     pub view-extended : map (records_of written new) after
         ≡ set (map (records_of records next) chains) c (get_or (map (records_of records next) chains) c [] ++ item ∷ [])
     unfolding records_of

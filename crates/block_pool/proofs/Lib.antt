@@ -4,3 +4,4 @@ pub mod Extended
 pub mod Dropped
 pub mod Begun
 pub mod Views
+pub mod Pushed

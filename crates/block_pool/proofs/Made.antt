@@ -47,7 +47,8 @@ module _ {X : Type 0} where
       get_or-drop m (map f (numbers_below n)) i d ∙ get_or-made f n (m + i) d (omega arith) ∙ sym (get_or-made g (n - m) i d inside))
 
   -- a part of a list, by its places
-  pub part-made : (d : X) (xs : List X) (start n : ℕ) → start + n ≤ length xs → take n (drop start xs) ≡ map (λ i. get_or xs (start + i) d) (numbers_below n)
+  pub part-made : (d : X) (xs : List X) (start n : ℕ) → start + n ≤ length xs →
+      take n (drop start xs) ≡ map (λ i. get_or xs (start + i) d) (numbers_below n)
   part-made d xs start n within =
       let g : ℕ → X = λ i. get_or xs (start + i) d in
       let long : length (take n (drop start xs)) ≡ n = length-take n (drop start xs) ∙ omega (arith, length-drop start xs) in
@@ -56,7 +57,8 @@ module _ {X : Type 0} where
       get_or-take n (drop start xs) i d inside ∙ get_or-drop start xs i d ∙ sym (get_or-made g n i d inside))
 
 -- functions that agree everywhere on a list give the same
-map_same : {X Y : Type 0} (f g : X → Y) (xs : List X) (d : X) → ((k : ℕ) → k < length xs → g (get_or xs k d) ≡ f (get_or xs k d)) → map g xs ≡ map f xs
+map_same : {X Y : Type 0} (f g : X → Y) (xs : List X) (d : X) → ((k : ℕ) → k < length xs → g (get_or xs k d) ≡ f (get_or xs k d)) →
+    map g xs ≡ map f xs
 map_same f g [] d same = refl
 map_same {Y = Y} f g (x ∷ xs) d same =
     ap (λ (y : Y). y ∷ map g xs) (same 0 (omega arith)) ∙ ap (λ (ys : List Y). f x ∷ ys) (map_same f g xs d (λ k h. same (suc k) (omega arith)))

@@ -21,7 +21,8 @@ unfolding records_of
 length-records_of records next chain = length-made (λ i. get_or records (place_in next chain i) NO_RECORD) chain.len
 
 -- the blocks of all chains
-held_sum : (records : List Record) (next : List ℕ) (chains : List Chain) → sum_by blocks_of (map (records_of records next) chains) ≡ sum_by block_count chains
+held_sum : (records : List Record) (next : List ℕ) (chains : List Chain) →
+    sum_by blocks_of (map (records_of records next) chains) ≡ sum_by block_count chains
 held_sum records next [] = refl
 held_sum records next (x ∷ xs) =
     let f : Chain → List Record = records_of records next in
@@ -44,7 +45,8 @@ map-empty records next zero = refl
 map-empty records next (suc n) = ap (λ (xs : List (List Record)). [] ∷ xs) (map-empty records next n)
 
 -- a new pool
-pub view-new : (records : List Record) (next : List ℕ) (chains : List Chain) (blocks count : ℕ) → length next ≡ blocks → chains ≡ replicate count NO_CHAIN
+pub view-new : (records : List Record) (next : List ℕ) (chains : List Chain) (blocks count : ℕ) → length next ≡ blocks →
+    chains ≡ replicate count NO_CHAIN
     → ◌≡◌ {A = PoolData} (record { blocks = length next; chains = map (records_of records next) chains }) (empty_pool blocks count)
 view-new records next chains blocks count len are =
     pool_same (length next) blocks (map (records_of records next) chains) (replicate count []) len
@@ -52,18 +54,22 @@ view-new records next chains blocks count len are =
 
 module _ (records : List Record) (next : List ℕ) (chains : List Chain) (p : PoolData)
     (is : ◌≡◌ {A = PoolData} (record { blocks = length next; chains = map (records_of records next) chains }) p) where
+  -- the number of blocks
   pub blocks-is : p.blocks ≡ length next
   blocks-is = ap (λ (q : PoolData). q.blocks) (sym is)
 
+  -- the number of chains
   pub length-chains : length p.chains ≡ length chains
   length-chains = ap (λ (q : PoolData). length q.chains) (sym is) ∙ length-map chains (records_of records next)
 
+  -- the length of a chain
   pub length-chain_at : (c : ℕ) → c < length chains → length (chain_at p c) ≡ (held_at chains c).len
   length-chain_at c present =
       ap (λ (q : PoolData). length (chain_at q c)) (sym is)
       ∙ ap length (get_or-map (records_of records next) chains c NO_CHAIN [] present)
       ∙ length-records_of records next (held_at chains c)
 
+  -- the blocks that the chains take
   pub held_blocks-is : held_blocks p ≡ sum_by block_count chains
   held_blocks-is = ap held_blocks (sym is) ∙ held_sum records next chains
 
@@ -86,7 +92,8 @@ module _ (records : List Record) (next : List ℕ) (chains : List Chain) (p : Po
       (with_chain p c (chain_at p c ++ item ∷ []))
   view-pushed new c x b extends same_length grown at made item inside kept place room =
       let written : List Record = set grown at item in
-      let others : (i : ℕ) → i < made * 1024 → i ≢ b * 1024 + (held_at chains c).len % 1024 → get_or written i NO_RECORD ≡ get_or records i NO_RECORD =
+      let others : (i : ℕ) → i < made * 1024 → i ≢ b * 1024 + (held_at chains c).len % 1024 →
+      get_or written i NO_RECORD ≡ get_or records i NO_RECORD =
       λ i below apart. get_or-set_other grown at i item NO_RECORD (λ same. apart (same ∙ place)) ∙ kept i below in
       let here : get_or written (b * 1024 + (held_at chains c).len % 1024) NO_RECORD ≡ item =
       ap (λ (k : ℕ). get_or written k NO_RECORD) (sym place) ∙ get_or-set_same grown at item NO_RECORD room in

@@ -1,5 +1,6 @@
 -- How a pool holds its chains.
-use Rattle.std.specs.Prelude.{◌≡◌, ◌≢◌, ℕ, ◌+◌, ◌-◌, ◌*◌, ◌/◌, ◌<◌, ◌≤◌, List, length, map, sum_by, slice_index, vec_capacity}
+use Rattle.std.specs.Prelude.{◌≡◌, ◌≢◌, ℕ, ◌+◌, ◌-◌, ◌*◌, ◌/◌, ◌<◌, ◌≤◌, List, length}
+use Rattle.std.specs.Prelude.{map, sum_by, slice_index, vec_capacity}
 use Rattle.std.specs.Int.{div_ceil}
 use Rattle.block_pool.specs.declared.blocks.Chain.{Chain}
 use Rattle.block_pool.specs.declared.blocks.Pool.TheInside.{Inside}

@@ -1,5 +1,5 @@
 -- Chains of blocks that are linked by their numbers.
-use Rattle.std.specs.Prelude.{ℕ, zero, suc, ◌+◌, ◌*◌, ◌/◌, ◌%◌, List, map, slice_index, slice_index_or}
+use Rattle.std.specs.Prelude.{◌≡◌, ℕ, zero, suc, ◌+◌, ◌*◌, ◌/◌, ◌%◌, ◌<◌, List, set, map, slice_index, slice_index_or}
 use Rattle.pthash.specs.Order.{numbers_below}
 use Rattle.pthash.specs.declared.Record.{Record}
 use Rattle.block_pool.specs.declared.blocks.Chain.{Chain}
@@ -31,3 +31,12 @@ place_in next chain i =
 unfoldable pub records_of : List Record → List ℕ → Chain → List Record
 records_of records next chain =
     map (λ i. slice_index_or records (place_in next chain i) NO_RECORD) (numbers_below chain.len)
+
+-- a chain of full blocks is changed so that a record stands in one more block, to which its last one leads
+pub record IsBegun (chain : Chain) (block : ℕ) (next linked : List ℕ) (longer : Chain) : Type 0 where
+  pub tail : longer.tail ≡ block
+  pub len : longer.len ≡ chain.len + 1
+  pub first_head : chain.len ≡ 0 → longer.head ≡ block
+  pub first_link : chain.len ≡ 0 → linked ≡ next
+  pub later_head : 0 < chain.len → longer.head ≡ chain.head
+  pub later_link : 0 < chain.len → linked ≡ set next chain.tail block

@@ -1,9 +1,10 @@
 // A pool of blocks, and the chains that are linked through them.
 
-ghost use Rattle.std.specs.Prelude.{◌≡◌, ◌↔◌, ℕ, ◌+◌, ◌*◌, ◌^◌, ◌<◌, ◌≤◌, [], ◌∷◌, ◌++◌, length, set, take, drop, replicate, slice_index, slice_index_or, vec_capacity, All, IfOk};
+ghost use Rattle.std.specs.Prelude.{◌≡◌, ◌↔◌, ℕ, ◌+◌, ◌*◌, ◌%◌, ◌^◌, ◌<◌, ◌≤◌, []};
+ghost use Rattle.std.specs.Prelude.{◌∷◌, ◌++◌, length, set, take, drop, replicate, slice_index, slice_index_or, vec_capacity, All, IfOk};
 ghost use Rattle.block_pool.specs.Chains.{chain_at, with_chain, empty_pool, held_blocks, free_blocks, HasNoRoom};
 ghost use Rattle.block_pool.specs.Pushing.{IsKept, IsFull, IfFull};
-ghost use Rattle.block_pool.specs.Linking.{NO_RECORD, held_at};
+ghost use Rattle.block_pool.specs.Linking.{NO_RECORD, held_at, IsBegun};
 
 use bucket_map::{NoMemory, Record};
 use std::alloc::Global;
@@ -87,6 +88,8 @@ impl Pool {
     }
 
     /// Adds a record at the end of a chain.
+    // A call takes longer than the work where the block has room, so this goes into its callers.
+    #[inline(always)]
     pub fn push(&mut self, chain: u32, item: Record) -> Push
         requires { chain < length self.old.chains }
         ensures kept { IsKept result
@@ -99,22 +102,39 @@ impl Pool {
     {
         let held = self.chains[chain as usize];
         let offset = held.len % BLOCK_RECORDS;
-        if offset > 0 {
-            let place = held.tail as usize * BLOCK_RECORDS as usize + offset as usize;
-            self.records[place] = item;
-            self.chains[chain as usize] = Chain {
-                head: held.head,
-                tail: held.tail,
-                len: held.len + 1,
-            };
-            return Push::Kept;
+        if offset == 0 {
+            return self.push_first(chain, item);
         }
+        let place = held.tail as usize * BLOCK_RECORDS as usize + offset as usize;
+        self.records[place] = item;
+        self.chains[chain as usize] = Chain {
+            head: held.head,
+            tail: held.tail,
+            len: held.len + 1,
+        };
+        Push::Kept
+    }
+
+    // Adds a record at the beginning of one more block of a chain whose blocks are full.
+    #[cold]
+    #[inline(never)]
+    fn push_first(&mut self, chain: u32, item: Record) -> Push
+        requires chain { chain < length self.old.chains }
+        requires full { length (chain_at self.old chain) % BLOCK_RECORDS ≡ 0 }
+        ensures kept { IsKept result
+            → self.new ≡ with_chain self.old chain (chain_at self.old chain ++ item ∷ []) }
+
+        ensures full { IsFull result ↔ HasNoRoom self.old chain }
+        ensures back { IfFull result (λ back. back ≡ item) }
+        ensures unchanged { IsFull result → self.new ≡ self.old }
+        ensures chains { length self.new.chains ≡ length self.old.chains }
+    {
+        let held = self.chains[chain as usize];
         if self.spare_count > 0 {
             self.spare_count -= 1;
             let block = self.spare[self.spare_count as usize];
             self.records[block as usize * BLOCK_RECORDS as usize] = item;
-            link(&mut self.next, held, block);
-            self.chains[chain as usize] = extended(held, block);
+            self.chains[chain as usize] = begun(&mut self.next, held, block);
             return Push::Kept;
         }
         let block = self.made;
@@ -122,8 +142,7 @@ impl Pool {
             self.made += 1;
             make_block(&mut self.records);
             self.records[block as usize * BLOCK_RECORDS as usize] = item;
-            link(&mut self.next, held, block);
-            self.chains[chain as usize] = extended(held, block);
+            self.chains[chain as usize] = begun(&mut self.next, held, block);
             return Push::Kept;
         }
         Push::Full(item)
@@ -213,28 +232,23 @@ fn give_back(spare: &mut Vec<u32>, spare_count: u32, block: u32) -> u32
     spare_count + 1
 }
 
-// Links a block to the last one of a chain, if that has one.
-fn link(next: &mut Vec<u32>, chain: Chain, block: u32)
-    requires { 0 < chain.len → chain.tail < length next.old.items }
-    ensures first { chain.len ≡ 0 → next.new.items ≡ next.old.items }
-    ensures later { 0 < chain.len → next.new.items ≡ set next.old.items chain.tail block }
+// Links a block to the last one of a chain of full blocks, if that has one, and gives the chain with
+// a record there.
+fn begun(next: &mut Vec<u32>, chain: Chain, block: u32) -> Chain
+    requires tail { 0 < chain.len → chain.tail < length next.old.items }
+    requires len { chain.len + 1 < 2 ^ 32 }
+    ensures { IsBegun chain block next.old.items next.new.items result }
 {
-    if chain.len > 0 {
-        next[chain.tail as usize] = block;
+    if chain.len == 0 {
+        return Chain {
+            head: block,
+            tail: block,
+            len: 1,
+        };
     }
-}
-
-// A chain of full blocks, once a record stands in one more block.
-fn extended(chain: Chain, block: u32) -> Chain
-    requires { chain.len + 1 < 2 ^ 32 }
-    ensures first { chain.len ≡ 0 → result.head ≡ block }
-    ensures later { 0 < chain.len → result.head ≡ chain.head }
-    ensures tail { result.tail ≡ block }
-    ensures len { result.len ≡ chain.len + 1 }
-{
-    let head = if chain.len == 0 { block } else { chain.head };
+    next[chain.tail as usize] = block;
     Chain {
-        head,
+        head: chain.head,
         tail: block,
         len: chain.len + 1,
     }
