@@ -13,7 +13,8 @@ pub record IsClashAnswer (records : List Record) (answer : Option (ℕ × ℕ)) 
   pub least : HasDistinctOrdinals records → IfSome answer (λ c. IsLeastClash records c.0 c.1)
 
 -- it doesn't depend on the order of the records
-pub IsClashAnswer-IsPermutation : (xs ys : List Record) (answer : Option (ℕ × ℕ)) → IsPermutation xs ys → IsClashAnswer ys answer → IsClashAnswer xs answer
+pub IsClashAnswer-IsPermutation : (xs ys : List Record) (answer : Option (ℕ × ℕ)) → IsPermutation xs ys → IsClashAnswer ys answer →
+    IsClashAnswer xs answer
 IsClashAnswer-IsPermutation xs ys answer moves is =
     let there = moved xs ys moves in
     let back = moved ys xs (IsPermutation-sym xs ys moves) in

@@ -107,8 +107,10 @@ module _ (records : List Record) (sorted : AllPairs IsNoLater records) where
         let x = get_or_default records i d NO_RECORD (omega arith) in
         let y = get_or_default records j d NO_RECORD inside in
         none j (omega arith) (omega arith)
-        (repeats_far i j low inside
-        (ap (λ (r : Record). r.a) (sym x) ∙ same.0 ∙ ap (λ (r : Record). r.a) y, ap (λ (r : Record). r.b) (sym x) ∙ same.1 ∙ ap (λ (r : Record). r.b) y)),
+        (repeats_far i j low inside (
+          ap (λ (r : Record). r.a) (sym x) ∙ same.0 ∙ ap (λ (r : Record). r.a) y,
+          ap (λ (r : Record). r.b) (sym x) ∙ same.1 ∙ ap (λ (r : Record). r.b) y,
+        )),
     λ _. refl,
   )
   none-is n (Some clash) all within repeat = (

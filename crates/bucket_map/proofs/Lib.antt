@@ -13,4 +13,5 @@ pub mod LeastClash
 pub mod Moved
 pub mod PartitionRecords
 pub mod Scattering
+pub mod KeptClasses
 pub mod CallerLemmas

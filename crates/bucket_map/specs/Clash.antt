@@ -1,5 +1,6 @@
 -- Records with the same pair of hashes.
-use Rattle.std.specs.Prelude.{◌≡◌, ◌≢◌, ℕ, ◌<◌, ◌≤◌, ◌⊎◌, ◌&&◌, ◌==◌, nat_le, if◌then◌else◌, List, length, AllPairs, slice_index_or, Option, Some, None}
+use Rattle.std.specs.Prelude.{◌≡◌, ◌≢◌, ℕ, ◌<◌, ◌≤◌, ◌⊎◌, ◌&&◌, ◌==◌, nat_le, if◌then◌else◌, List, length}
+use Rattle.std.specs.Prelude.{AllPairs, slice_index_or, Option, Some, None}
 use Rattle.pthash.specs.declared.Record.{Record}
 
 -- two records have the same pair of hashes

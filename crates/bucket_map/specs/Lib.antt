@@ -10,3 +10,4 @@ pub mod Layout
 pub mod Clash
 pub mod PartitionPlaces
 pub mod PartitionLayout
+pub mod Near

@@ -4,6 +4,7 @@
 mod bucket_divisors;
 mod clash;
 mod group;
+mod near;
 mod order;
 mod partition;
 mod sizes;

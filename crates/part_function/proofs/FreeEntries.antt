@@ -27,7 +27,8 @@ no_entry is_taken n zero entries none empty = record { rank_is = refl; few = ome
 no_entry is_taken n (suc k) entries none empty = absurd (omega arith)
 
 -- one entry more
-pub one_more_entry : (is_taken : ℕ → Bool) (n place rank step entry : ℕ) (free entries more : List ℕ) → n ≤ place → free ≡ free_below is_taken n →
+pub one_more_entry : (is_taken : ℕ → Bool) (n place rank step entry : ℕ) (free entries more : List ℕ) → n ≤ place →
+    free ≡ free_below is_taken n →
     entry ≡ slice_index free (min rank (length free - 1)) → step ≡ one_if (is_taken place) → more ≡ entries ++ entry ∷ [] →
     AreEntries is_taken n (place - n) rank entries → AreEntries is_taken n (place + 1 - n) (rank + step) more
 unfolding numbers_below
@@ -53,7 +54,8 @@ one_more_entry is_taken n place rank step entry free entries more after free_are
     at_most_one false is_none = omega (arith, so_far.few)
 
 -- all entries
-pub all_entries : (is_taken : ℕ → Bool) (n place size rank : ℕ) (entries : List ℕ) → place ≡ size → AreEntries is_taken n (place - n) rank entries →
+pub all_entries : (is_taken : ℕ → Bool) (n place size rank : ℕ) (entries : List ℕ) → place ≡ size →
+    AreEntries is_taken n (place - n) rank entries →
     entries ≡ free_list_of is_taken n size
 unfolding free_list_of
 all_entries is_taken n place size rank entries end so_far = so_far.are ∙ ap (λ p. map (free_entry is_taken n) (numbers_below (p - n))) end

@@ -1,5 +1,6 @@
 -- Free positions are found word by word.
-use Rattle.std.proofs.Common.{◌≡◌, ℕ, zero, suc, ◌+◌, ◌-◌, ◌*◌, ◌/◌, ◌%◌, ◌^◌, ◌<◌, ◌≤◌, min, Bool, true, false, not, ◌==◌, cond}
+use Rattle.std.proofs.Common.{◌≡◌, ℕ, zero, suc, ◌+◌, ◌-◌, ◌*◌, ◌/◌, ◌%◌, ◌^◌, ◌<◌, ◌≤◌, min, Bool, true}
+use Rattle.std.proofs.Common.{false, not, ◌==◌, cond}
 use Rattle.std.proofs.Common.{List, [], ◌∷◌, ◌++◌, sym, ap, ◌∙◌, arith, ⊎_elim}
 use Rattle.std.specs.Int.{bit_at, bit_not, trailing_zeros, w64}
 use Rattle.std.proofs.lemmas.Bool.{cases_lt, eq-eqb, ne_eqb}
@@ -43,7 +44,8 @@ free_fits word s =
     div_below (bit_not w64 word) (2 ^ s) (2 ^ 64) some (omega arith)
 
 -- up to the lowest free bit all are set
-pub run_to_free : (word place run : ℕ) → word < 2 ^ 64 → 0 < bit_not w64 word / 2 ^ place → run ≡ trailing_zeros w64 (bit_not w64 word / 2 ^ place) →
+pub run_to_free : (word place run : ℕ) → word < 2 ^ 64 → 0 < bit_not w64 word / 2 ^ place →
+    run ≡ trailing_zeros w64 (bit_not w64 word / 2 ^ place) →
     IsRunOfOnes word place run
 run_to_free word place run fits some is =
     let free : ℕ = bit_not w64 word / 2 ^ place in
@@ -59,7 +61,8 @@ run_to_free word place run fits some is =
     }
 
 -- without a free bit all are set
-pub run_to_end : (word place run : ℕ) → word < 2 ^ 64 → place < 64 → bit_not w64 word / 2 ^ place ≤ 0 → run ≡ 64 - place → IsRunOfOnes word place run
+pub run_to_end : (word place run : ℕ) → word < 2 ^ 64 → place < 64 → bit_not w64 word / 2 ^ place ≤ 0 → run ≡ 64 - place →
+    IsRunOfOnes word place run
 run_to_end word place run fits within none is =
     let free : ℕ = bit_not w64 word / 2 ^ place in
     let zero_word : free ≡ 0 = omega arith in
@@ -117,7 +120,8 @@ end_free is_taken from end position before past so_far = record {
 }
 
 -- taken positions add no free one
-free_below-taken : (is_taken : ℕ → Bool) (n k : ℕ) → ((p : ℕ) → n ≤ p → p < n + k → is_taken p ≡ true) → free_below is_taken (n + k) ≡ free_below is_taken n
+free_below-taken : (is_taken : ℕ → Bool) (n k : ℕ) → ((p : ℕ) → n ≤ p → p < n + k → is_taken p ≡ true) →
+    free_below is_taken (n + k) ≡ free_below is_taken n
 free_below-taken is_taken n zero taken = ap (free_below is_taken) (let same : n + 0 ≡ n = omega arith in same)
 free_below-taken is_taken n (suc k) taken =
     let more : n + suc k ≡ suc (n + k) = omega arith in
@@ -128,14 +132,16 @@ free_below-taken is_taken n (suc k) taken =
     ∙ free_below-taken is_taken n k (λ p after lower. taken p after (omega arith))
 
 -- up to the next free position there is no further one
-pub free_below-next : (is_taken : ℕ → Bool) (from end next : ℕ) → IsNextFree is_taken from end next → free_below is_taken next ≡ free_below is_taken from
+pub free_below-next : (is_taken : ℕ → Bool) (from end next : ℕ) → IsNextFree is_taken from end next →
+    free_below is_taken next ≡ free_below is_taken from
 free_below-next is_taken from end next found =
     let there : next ≡ from + (next - from) = omega (arith, found.from_on) in
     ap (free_below is_taken) there
     ∙ free_below-taken is_taken from (next - from) (λ p after lower. found.before p after (omega (arith, found.from_on)))
 
 -- with a free position and those up to the next one
-pub free_below-push : (is_taken : ℕ → Bool) (position end next : ℕ) (free : List ℕ) → is_taken position ≡ false → free ≡ free_below is_taken position →
+pub free_below-push : (is_taken : ℕ → Bool) (position end next : ℕ) (free : List ℕ) → is_taken position ≡ false →
+    free ≡ free_below is_taken position →
     IsNextFree is_taken (position + 1) end next → free ++ position ∷ [] ≡ free_below is_taken next
 free_below-push is_taken position end next free vacant so_far found =
     let more : position + 1 ≡ suc position = omega arith in
@@ -170,5 +176,6 @@ one_more_free is_taken n position next free below so_far found = record {
 }
 
 -- all of them
-pub all_free : (is_taken : ℕ → Bool) (n position : ℕ) (free : List ℕ) → n ≤ position → AreFreeBelow is_taken n position free → free ≡ free_below is_taken n
+pub all_free : (is_taken : ℕ → Bool) (n position : ℕ) (free : List ℕ) → n ≤ position → AreFreeBelow is_taken n position free →
+    free ≡ free_below is_taken n
 all_free is_taken n position free past so_far = so_far.are ∙ ap (free_below is_taken) (let same : position ≡ n = omega (arith, so_far.within) in same)

@@ -15,22 +15,24 @@ use Rattle.pilot_search.specs.Outcome.{IsStuckAt}
 use Rattle.build_outcome.specs.Attempt.{Rules, AreRules, partition_plan, part_of}
 use Rattle.build_outcome.specs.FreeList.{free_list_of}
 use Rattle.build_outcome.specs.Index.{PartData}
-use Rattle.build_outcome.specs.OnePart.{one_part, part_of-finished, part_of-stuck, HaveOwnNumbers, part_of-HaveOwnNumbers}
+use Rattle.build_outcome.specs.OnePart.{one_part, part_of-finished, part_of-stuck, part_of-HaveOwnNumbers}
 use Rattle.build_outcome.specs.PartLaws.{IsFinished, bucket_count, part_of-none}
 use Rattle.build_outcome.specs.ValidityLaws.{part_of-IsValidPart}
-use Rattle.part_function.specs.Answers.{IsPartStuckAt}
+use Rattle.part_function.specs.Answers.{IsPartAnswer}
 use Rattle.part_function.specs.Parts.{IsPart}
 use Rattle.part_function.specs.PartsLaws.{IsPart-valid}
 
 -- what was searched is the plan of a partition, and what is made of the state in which the search ended
-pub record IsMadeOf (rules : Rules) (seed : ℕ) (records : List Record) (plan : SearchPlan) (state : SearchState) (pilots free : List ℕ) : Type 0 where
+pub record IsMadeOf (rules : Rules) (seed : ℕ) (records : List Record) (plan : SearchPlan) (state : SearchState)
+    (pilots free : List ℕ) : Type 0 where
   pub plan_is : plan ≡ partition_plan rules seed records
   pub ends : search_of plan ≡ Ok state
   pub pilots_are : pilots ≡ pilots_by_number plan.buckets state.pilots (bucket_count rules records)
   pub free_is : free ≡ free_list_of (contains state.taken) (length records) plan.size
 
 -- that is the partition
-pub made_part : (shape : Shape) (limit seed : ℕ) (records : List Record) (plan : SearchPlan) (state : SearchState) (pilots free : List ℕ) → 0 < length records →
+pub made_part : (shape : Shape) (limit seed : ℕ) (records : List Record) (plan : SearchPlan) (state : SearchState)
+    (pilots free : List ℕ) → 0 < length records →
     IsMadeOf (one_part (shape_data shape) limit) seed records plan state pilots free →
     part_of (one_part (shape_data shape) limit) seed records ≡ Ok (record { n = length records; pilots = pilots; free = free })
 made_part shape limit seed records plan state pilots free some made =
@@ -46,7 +48,8 @@ made_part shape limit seed records plan state pilots free some made =
     ∙ (λ i. Ok (record { n = length records; pilots = sym pilots_are i; free = sym free_is i }))
 
 -- and keeps what each partition does
-pub made_IsPart : (shape : Shape) (limit seed : ℕ) (records : List Record) (part : PartData) → 1 ≤ limit → limit ≤ MAX_PILOTS → length records ≤ MAX_KEYS →
+pub made_IsPart : (shape : Shape) (limit seed : ℕ) (records : List Record) (part : PartData) → 1 ≤ limit → limit ≤ MAX_PILOTS →
+    length records ≤ MAX_KEYS →
     part_of (one_part (shape_data shape) limit) seed records ≡ Ok part → IsPart part
 made_IsPart shape limit seed records part some_pilot few_pilots few gives =
     let ranges : AreRules (one_part (shape_data shape) limit) =
@@ -74,22 +77,44 @@ records_fit shape limit seed size records plan is sized =
     subst (λ k. length records ≤ k) (sym (sized ∙ ap (λ (p : SearchPlan). p.size) is)) room
 
 -- no record gives the partition without a key
-pub empty_part : (rules : Rules) (seed : ℕ) (records : List Record) (part : PartData) → length records ≡ 0 →
+empty_part : (rules : Rules) (seed : ℕ) (records : List Record) (part : PartData) → length records ≡ 0 →
     part ≡ record { n = 0; pilots = []; free = [] } → part_of rules seed records ≡ Ok part
 empty_part rules seed [] part none is = part_of-none rules seed ∙ ap Ok (sym is)
 empty_part rules seed (r ∷ records) part none is = absurd (omega arith)
 
--- the records have numbers of their own, by the plan that was searched
-pub own_numbers : (shape : Shape) (limit seed : ℕ) (records : List Record) (plan : SearchPlan) (part : PartData) →
+-- a partition that is the records' is the answer
+answer_part : (shape : Shape) (limit seed : ℕ) (records : List Record) (part : PartData) →
+    part_of (one_part (shape_data shape) limit) seed records ≡ Ok part → IsPartAnswer (shape_data shape) limit seed records (Ok part)
+answer_part shape limit seed records part gives = record {
+  part = gives;
+  numbers = part_of-HaveOwnNumbers (one_part (shape_data shape) limit) seed records part (IsShape-shape_data shape) gives;
+  stuck = tt;
+}
+
+-- that of no record
+pub empty_answer : (shape : Shape) (limit seed : ℕ) (records : List Record) (part : PartData) → length records ≡ 0 →
+    part ≡ record { n = 0; pilots = []; free = [] } → IsPartAnswer (shape_data shape) limit seed records (Ok part)
+empty_answer shape limit seed records part none is =
+    answer_part shape limit seed records part (empty_part (one_part (shape_data shape) limit) seed records part none is)
+
+-- that of the plan that was searched
+pub placed_answer : (shape : Shape) (limit seed : ℕ) (records : List Record) (plan : SearchPlan) (part : PartData) →
     plan ≡ partition_plan (one_part (shape_data shape) limit) seed records →
-    part_of (one_part (shape_data shape) plan.limit) plan.seed records ≡ Ok part → HaveOwnNumbers shape.map seed part records
-own_numbers shape limit seed records plan part is gives =
-    subst (λ s. HaveOwnNumbers shape.map s part records) (ap (λ (p : SearchPlan). p.seed) is)
-    (part_of-HaveOwnNumbers (one_part (shape_data shape) plan.limit) plan.seed records part (IsShape-shape_data shape) gives)
+    part_of (one_part (shape_data shape) plan.limit) plan.seed records ≡ Ok part →
+    IsPartAnswer (shape_data shape) limit seed records (Ok part)
+placed_answer shape limit seed records plan part is gives =
+    answer_part shape limit seed records part
+    (subst (λ (p : SearchPlan). part_of (one_part (shape_data shape) p.limit) p.seed records ≡ Ok part) is gives)
 
 -- where the search is stuck, there is no partition
-pub stuck_part : (rules : Rules) (seed : ℕ) (records : List Record) (plan : SearchPlan) (stuck : Stuck) → 0 < length records →
-    plan ≡ partition_plan rules seed records → IsStuckAt plan stuck → IsPartStuckAt rules seed records stuck
-stuck_part rules seed records plan stuck some is at =
+pub stuck_answer : (shape : Shape) (limit seed : ℕ) (records : List Record) (plan : SearchPlan) (stuck : Stuck) → 0 < length records →
+    plan ≡ partition_plan (one_part (shape_data shape) limit) seed records → IsStuckAt plan stuck →
+    IsPartAnswer (shape_data shape) limit seed records (Err stuck)
+stuck_answer shape limit seed records plan stuck some is at =
+    let rules : Rules = one_part (shape_data shape) limit in
     let there : IsStuckAt (partition_plan rules seed records) stuck = subst (λ (p : SearchPlan). IsStuckAt p stuck) is at in
-    record { search = there; no_part = part_of-stuck rules seed stuck.rank records some there.found ∙ ap Err (sym there.bucket) }
+    record {
+      part = tt;
+      numbers = tt;
+      stuck = record { search = there; no_part = part_of-stuck rules seed stuck.rank records some there.found ∙ ap Err (sym there.bucket) };
+    }

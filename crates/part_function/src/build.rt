@@ -1,7 +1,6 @@
 // How a partition is built.
 
 ghost use Rattle.std.specs.Prelude.{◌≡◌, ◌<◌, ◌≤◌, length, Ok, IfOk, IfErr};
-ghost use Rattle.std.specs.FinSet.{contains};
 ghost use Rattle.pthash.specs.declared.TheConstants.{MAX_KEYS, MAX_PILOTS};
 ghost use Rattle.pthash.specs.Order.{most_members};
 ghost use Rattle.bucket_map.specs.ShapeData.{shape_data};
@@ -9,8 +8,8 @@ ghost use Rattle.pilot_search.specs.Outcome.{IsPlaced, IsStuckAt};
 ghost use Rattle.settings.specs.Workers.{workers_of};
 ghost use Rattle.settings.specs.declared.settings.TheConstants.{MAX_WORKERS};
 ghost use Rattle.build_outcome.specs.Attempt.{partition_plan, part_of};
-ghost use Rattle.build_outcome.specs.OnePart.{one_part, HaveOwnNumbers};
-ghost use Rattle.part_function.specs.Answers.{IsPartStuckAt};
+ghost use Rattle.build_outcome.specs.OnePart.{one_part};
+ghost use Rattle.part_function.specs.Answers.{IsPartAnswer};
 
 use crate::free_positions::free_list;
 use crate::numbering::by_number;
@@ -36,12 +35,8 @@ pub fn build_part<R: Threads + Sync>(
     requires few_pilots { limit ≤ MAX_PILOTS }
     requires some_worker { 1 ≤ workers_of how }
     requires few_workers { workers_of how ≤ MAX_WORKERS }
-    ensures part { let rules = one_part (shape_data shape) limit in
-        IfOk result (λ answer. IfOk answer (λ part. part_of rules seed records.now ≡ Ok part)) }
-    ensures numbers { IfOk result (λ answer. IfOk answer
-        (λ part. HaveOwnNumbers shape.map seed part records.now)) }
-    ensures stuck { let rules = one_part (shape_data shape) limit in
-        IfOk result (λ answer. IfErr answer (λ stuck. IsPartStuckAt rules seed records.now stuck)) }
+    ensures { let is_answer = IsPartAnswer (shape_data shape) limit seed records.now in
+        IfOk result (λ answer. is_answer answer) }
 {
     if records.is_empty() {
         return Ok(Ok(Part::empty(alloc)?));
@@ -69,12 +64,8 @@ pub fn build_part_with<R: Threads + Sync>(
     requires few_pilots { limit ≤ MAX_PILOTS }
     requires some_worker { 1 ≤ workers_of how }
     requires few_workers { workers_of how ≤ MAX_WORKERS }
-    ensures part { let rules = one_part (shape_data shape) limit in
-        IfOk result (λ answer. IfOk answer (λ part. part_of rules seed records.now ≡ Ok part)) }
-    ensures numbers { IfOk result (λ answer. IfOk answer
-        (λ part. HaveOwnNumbers shape.map seed part records.now)) }
-    ensures stuck { let rules = one_part (shape_data shape) limit in
-        IfOk result (λ answer. IfErr answer (λ stuck. IsPartStuckAt rules seed records.now stuck)) }
+    ensures { let is_answer = IsPartAnswer (shape_data shape) limit seed records.now in
+        IfOk result (λ answer. is_answer answer) }
 {
     if records.is_empty() {
         return Ok(Ok(Part::empty(alloc)?));
