@@ -1,3 +1,5 @@
+// Searches worked by hand, and pilots and hashes of independent programs.
+
 ghost use Rattle.std.specs.Prelude.{◌≡◌, ◌≤◌, length, IfOk};
 ghost use Rattle.pthash.specs.Order.{most_members};
 ghost use Rattle.pilot_search.specs.Outcome.{IsPlacedSoFar, IsPlaced};
