@@ -1,4 +1,12 @@
-# What run.sh and lists.sh share: they build two programs that print nanoseconds and a checksum, and run them in turn.
+# What the scripts beside share: they build two programs that print nanoseconds and a checksum, and run them in turn.
+set -eu
+cd "$(dirname "${BASH_SOURCE[0]}")/.."
+
+# begin RUNS CRATE YARDSTICK LEVEL: builds both programs. Each figure is the least of so many runs, or of three.
+begin() {
+    runs=${1:-3}
+    build "${@:2}"
+}
 
 # build CRATE YARDSTICK LEVEL: proves and builds a program of crates/, and builds its like in plain Rust, for a level of processors.
 build() {

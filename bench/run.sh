@@ -1,11 +1,8 @@
 #!/usr/bin/env bash
 # Times the hash and the buckets beside the same code in `rustc -O`, in turn, and prints a table. Each figure is
 # the least of three runs, or of as many as the first word says. The checksums of both must agree.
-set -eu
-cd "$(dirname "$0")/.."
-runs=${1:-3}
-. bench/compare.sh
-build bench_search main.rs
+. "$(dirname "$0")/compare.sh"
+begin "${1:-}" bench_search main.rs
 
 # one row: what is timed, its word, how many bytes or keys, the unit, and what a second's worth of it is divided by
 row() {

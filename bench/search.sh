@@ -1,11 +1,8 @@
 #!/usr/bin/env bash
-# Times the search in all its parts beside plain Rust of the shape that is fastest, in turn, and prints three tables. Each figure
-# is the least of three runs, or of as many as the first word says. Checksums must agree. It takes a few minutes.
-set -eu
-cd "$(dirname "$0")/.."
-runs=${1:-3}
-. bench/compare.sh
-build bench_search search.rs
+# Times the search in all its parts beside plain Rust of the shape that is fastest, in turn, and prints four tables. Each figure
+# is the least of three runs, or of as many as the first word says. Checksums must agree. It takes a few minutes, and with the word `tight` after the runs some more.
+. "$(dirname "$0")/compare.sh"
+begin "${1:-}" bench_search search.rs
 
 # one row: what is timed, the part, its count, the unit, and what the nanoseconds are divided by
 row() {
@@ -15,21 +12,36 @@ row() {
     }'
 }
 
-# least PART COUNT: the least nanoseconds of our part.
-least() {
+# times COUNT PART..: a line of part, nanoseconds and checksum for each run of our parts, in turn
+times() {
+    local part
     for _ in $(seq "$runs"); do
-        "$rattle" "$1" "$2"
-    done | sort -n | head -1 | cut -d' ' -f1
+        for part in "${@:2}"; do
+            echo "$part $("$rattle" "$part" "$1")"
+        done
+    done
 }
 
 # one row on two parts of ours: what is timed, both parts, and their count
 pair() {
-    local one two
-    one=$(least "$2" "$4")
-    two=$(least "$3" "$4")
-    awk -v name="$1" -v one="$one" -v two="$two" 'BEGIN {
-        printf "| %s | %.1f ms | %.1f ms | %.2f |\n", name, one / 1000000, two / 1000000, one / two
-    }'
+    times "$4" "$2" "$3" | awk -v name="$1" -v with="$2" -v without="$3" '
+        !($1 in least) || $2 < least[$1] { least[$1] = $2 }
+        END { printf "| %s | %.1f ms | %.1f ms | %.2f |\n", name, least[with] / 1000000, least[without] / 1000000, least[with] / least[without] }'
+}
+
+# one row on a search alone and in rounds: what is searched, the end of the names of its parts, and its count
+rounds() {
+    times "$3" "place$2" "two$2" "four$2" | awk -v name="$1" '
+        NR == 1 { sum = $3 }
+        $3 != sum { differ = 1 }
+        { part = $1; sub(/_.*/, "", part) }
+        !(part in least) || $2 < least[part] { least[part] = $2 }
+        END {
+            if (differ) { print "the checksums of " name " differ" > "/dev/stderr"; exit 1 }
+            alone = least["place"]
+            printf "| %s | %.1f ms | %.1f ms | %.1f ms | %.2f | %.2f |\n", name, alone / 1000000,
+                least["two"] / 1000000, least["four"] / 1000000, least["two"] / alone, least["four"] / alone
+        }'
 }
 
 head_of_table "search"
@@ -49,5 +61,12 @@ echo
 echo "| search of 1,000,000 records | with it | without it | time, as a ratio |"
 echo "|---|---|---|---|"
 pair "two equal records" repeat place 1000000
-pair "rounds of 4 workers, $(nproc) processors" rounds place 1000000
-pair "the same with c=200 alpha=99, 100,000 records" rounds_tight place_tight 100000
+echo
+echo "| search on $(nproc) processors | alone | 2 workers | 4 workers | 2, as a ratio | 4, as a ratio |"
+echo "|---|---|---|---|---|---|"
+rounds "1,000,000 records" "" 1000000
+rounds "1,000,000 records, c=300 alpha=99" _lean 1000000
+rounds "100,000 records, c=200 alpha=99" _tight 100000
+if [ "${2:-}" = tight ]; then
+    rounds "1,000,000 records, c=200 alpha=99" _tight 1000000
+fi

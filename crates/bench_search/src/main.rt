@@ -24,7 +24,7 @@ fn main(rt: HostRuntime) -> io::Result<()> {
             println!(rt; "{nanos} {checksum}")
         }
         _ => println!(rt;
-            "parts: murmur64, hash_pair, ordered_buckets, place, place_tight, rounds, rounds_tight, partitions, repeat, lists, large, among; then how many bytes, keys, records or members"
+            "parts: murmur64, hash_pair, ordered_buckets, place, two, four, each also as place_lean and place_tight, partitions, repeat, lists, large, among; then how many bytes, keys, records or members"
         ),
     }
 }

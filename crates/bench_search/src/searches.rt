@@ -20,9 +20,6 @@ const SEED: u64 = 1;
 
 const PILOTS: u64 = 16_777_216;
 
-// So many threads search in rounds.
-const WORKERS: u32 = 4;
-
 const PARTITIONS: u32 = 64;
 
 // So many small lists are searched one after another.
@@ -45,10 +42,6 @@ pub fn time_search<R: Clock + Threads + Sync>(
     count: u32,
 ) -> io::Result<Timed> {
     match part {
-        "place" => time_place(rt, alloc, &records(alloc, count)?, usual(), PILOTS),
-        "place_tight" => time_place(rt, alloc, &records(alloc, count)?, tight(), PILOTS),
-        "rounds" => time_rounds(rt, alloc, &records(alloc, count)?, usual()),
-        "rounds_tight" => time_rounds(rt, alloc, &records(alloc, count)?, tight()),
         "partitions" => time_partitions(rt, alloc, &records(alloc, count)?),
         "repeat" => {
             let records = records_with_a_repeat(alloc, count)?;
@@ -60,6 +53,27 @@ pub fn time_search<R: Clock + Threads + Sync>(
             let records = records_of_one_bucket(alloc, count, AMONG)?;
             time_place(rt, alloc, &records, usual(), AMONG_PILOTS)
         }
+        _ => time_whole(rt, alloc, part, &records(alloc, count)?),
+    }
+}
+
+// The whole search of one plan, alone or in rounds.
+fn time_whole<R: Clock + Threads + Sync>(
+    rt: &R,
+    alloc: Global,
+    part: &str,
+    records: &[Record],
+) -> io::Result<Timed> {
+    match part {
+        "place" => time_place(rt, alloc, records, usual(), PILOTS),
+        "place_lean" => time_place(rt, alloc, records, lean(), PILOTS),
+        "place_tight" => time_place(rt, alloc, records, tight(), PILOTS),
+        "two" => time_rounds(rt, alloc, records, usual(), 2),
+        "two_lean" => time_rounds(rt, alloc, records, lean(), 2),
+        "two_tight" => time_rounds(rt, alloc, records, tight(), 2),
+        "four" => time_rounds(rt, alloc, records, usual(), 4),
+        "four_lean" => time_rounds(rt, alloc, records, lean(), 4),
+        "four_tight" => time_rounds(rt, alloc, records, tight(), 4),
         _ => Err(invalid_input()),
     }
 }
@@ -68,6 +82,14 @@ fn usual() -> Shape {
     Shape {
         alpha: 98,
         c: 700,
+        map: Map::Skewed,
+    }
+}
+
+fn lean() -> Shape {
+    Shape {
+        alpha: 99,
+        c: 300,
         map: Map::Skewed,
     }
 }
@@ -141,10 +163,14 @@ fn time_rounds<R: Clock + Threads + Sync>(
     alloc: Global,
     records: &[Record],
     shape: Shape,
-) -> io::Result<Timed> {
+    workers: u32,
+) -> io::Result<Timed>
+    requires some { 1 ≤ workers }
+    requires bound { workers ≤ 64 }
+{
     let plan = plan_of(alloc, records, shape, PILOTS)?;
     let start = Instant::now(rt)?;
-    let answer = place_rounds(rt, alloc, &plan, WORKERS);
+    let answer = place_rounds(rt, alloc, &plan, workers);
     let nanos = start.elapsed(rt)?.as_nanos();
     match answer {
         Ok(answer) => Ok(Timed {

@@ -1,5 +1,5 @@
 -- Positions that fit, one after another.
-use Rattle.std.proofs.Common.{◌≡◌, ℕ, ◌+◌, ◌-◌, ◌<◌, ◌≤◌, arith, Bool, true, false, ◌&&◌, ◌||◌, List}
+use Rattle.std.proofs.Common.{◌≡◌, ℕ, ◌+◌, ◌-◌, ◌<◌, arith, Bool, true, false, ◌&&◌, ◌||◌, List}
 use Rattle.std.proofs.Common.{[], ◌∷◌, ◌++◌, length, take, drop, get_or, refl, sym, ap, ◌∙◌, subst, ⊎_elim}
 use Rattle.std.specs.Prelude.{not, nat_eq, bit_xor, ◌%◌}
 use Rattle.std.specs.List.{list_all}
@@ -66,7 +66,8 @@ is_distinct_part (x ∷ xs) ys distinct =
 fits_part : (taken : ℕ → Bool) (ps qs : List ℕ) → fits taken (ps ++ qs) ≡ true → fits taken ps ≡ true
 fits_part taken ps qs fit =
     let parts = and_parts (list_all (λ q. not (taken q)) (ps ++ qs)) (is_distinct (ps ++ qs)) fit in
-    let free = and_parts (list_all (λ q. not (taken q)) ps) (list_all (λ q. not (taken q)) qs) (sym (list_all-append (λ q. not (taken q)) ps qs) ∙ parts.0) in
+    let free = and_parts (list_all (λ q. not (taken q)) ps) (list_all (λ q. not (taken q)) qs)
+    (sym (list_all-append (λ q. not (taken q)) ps qs) ∙ parts.0) in
     and_from (list_all (λ q. not (taken q)) ps) (is_distinct ps) free.0 (is_distinct_part ps qs parts.1)
 
 -- where the first positions don't fit, all of them don't
@@ -89,7 +90,8 @@ fails_at taken ps i p in_range here clash =
     (fits_more taken ps i in_range ∙ ap (λ b. fits taken (take i ps) && not b) there ∙ and-false (fits taken (take i ps)))
 
 -- the next position fits too
-pub fits_at : (taken : ℕ → Bool) (ps : List ℕ) (i p : ℕ) → i < length ps → get_or ps i 0 ≡ p → fits taken (take i ps) ≡ true → taken p ≡ false →
+pub fits_at : (taken : ℕ → Bool) (ps : List ℕ) (i p : ℕ) → i < length ps → get_or ps i 0 ≡ p →
+    fits taken (take i ps) ≡ true → taken p ≡ false →
     is_among (take i ps) p ≡ false → fits taken (take (i + 1) ps) ≡ true
 fits_at taken ps i p in_range here fit free new =
     let P : ℕ → Type 0 = λ q. (taken q || is_among (take i ps) q) ≡ false in
@@ -98,7 +100,8 @@ fits_at taken ps i p in_range here fit free new =
     fits_more taken ps i in_range ∙ ap (λ b. fits taken (take i ps) && not b) there ∙ ap (λ b. b && true) fit
 
 -- one more number is distinct from the others
-pub distinct_at : (xs : List ℕ) (i x : ℕ) → i < length xs → get_or xs i 0 ≡ x → is_distinct (take i xs) ≡ true → is_among (take i xs) x ≡ false →
+pub distinct_at : (xs : List ℕ) (i x : ℕ) → i < length xs → get_or xs i 0 ≡ x → is_distinct (take i xs) ≡ true →
+    is_among (take i xs) x ≡ false →
     is_distinct (take (i + 1) xs) ≡ true
 distinct_at xs i x in_range here distinct new =
     ap is_distinct (take_more xs i 0 in_range ∙ ap (λ y. take i xs ++ y ∷ []) here) ∙ is_distinct-push (take i xs) x ∙ rw (distinct, new) refl
@@ -124,14 +127,16 @@ distinct_one [] = refl
 distinct_one (x ∷ xs) = refl
 
 -- one more position is free
-pub free_at : (taken : ℕ → Bool) (ps : List ℕ) (i p : ℕ) → i < length ps → get_or ps i 0 ≡ p → list_all (λ q. not (taken q)) (take i ps) ≡ true →
+pub free_at : (taken : ℕ → Bool) (ps : List ℕ) (i p : ℕ) → i < length ps → get_or ps i 0 ≡ p →
+    list_all (λ q. not (taken q)) (take i ps) ≡ true →
     taken p ≡ false → list_all (λ q. not (taken q)) (take (i + 1) ps) ≡ true
 free_at taken ps i p in_range here free new =
     ap (list_all (λ q. not (taken q))) (take_more ps i 0 in_range ∙ ap (λ y. take i ps ++ y ∷ []) here)
     ∙ list_all-append (λ q. not (taken q)) (take i ps) (p ∷ []) ∙ rw (free, new) refl
 
 -- positions of which one is taken are not all free
-pub taken_at : (taken : ℕ → Bool) (ps : List ℕ) (i p : ℕ) → i < length ps → get_or ps i 0 ≡ p → taken p ≡ true → list_all (λ q. not (taken q)) ps ≡ false
+pub taken_at : (taken : ℕ → Bool) (ps : List ℕ) (i p : ℕ) → i < length ps → get_or ps i 0 ≡ p → taken p ≡ true →
+    list_all (λ q. not (taken q)) ps ≡ false
 taken_at taken ps i p in_range here known =
     false_from_ne_true (list_all (λ q. not (taken q)) ps) (λ free.
     both_ways (taken (get_or ps i 0)) (not-true (taken (get_or ps i 0)) (AllPass-from_list_all (λ q. not (taken q)) ps free i 0 in_range))
@@ -147,7 +152,8 @@ pub length-positions_under : (hash size : ℕ) (members : List ℕ) → length (
 length-positions_under hash size members = length-map members (λ b. bit_xor b hash % size)
 
 -- a taken position fails the pilot
-pub taken_fails : (taken : ℕ → Bool) (hash size : ℕ) (members : List ℕ) (i : ℕ) → i < length members → taken (bit_xor (get_or members i 0) hash % size) ≡ true
+pub taken_fails : (taken : ℕ → Bool) (hash size : ℕ) (members : List ℕ) (i : ℕ) → i < length members →
+    taken (bit_xor (get_or members i 0) hash % size) ≡ true
     → fits taken (positions_under hash size members) ≡ false
 taken_fails taken hash size members i in_range known =
     ap (λ b. b && is_distinct (positions_under hash size members))

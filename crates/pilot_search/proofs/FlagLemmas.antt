@@ -1,5 +1,6 @@
 -- Flags of pilots that fail: of one, of two runs joined, and of those that are left.
-use Rattle.std.proofs.Common.{◌≡◌, ℕ, ◌+◌, ◌-◌, ◌*◌, ◌/◌, ◌%◌, ◌^◌, ◌<◌, ◌≤◌, Bool, true, false, List, length, sym, ap, ◌∙◌, arith, ⊎_elim}
+use Rattle.std.proofs.Common.{◌≡◌, ◌+◌, ◌-◌, ◌*◌, ◌/◌, ◌%◌, ◌^◌, ◌<◌, ◌≤◌, ◌∙◌}
+use Rattle.std.proofs.Common.{ℕ, Bool, true, false, List, length, sym, ap, arith, ⊎_elim}
 use Rattle.std.specs.Prelude.{not, bit_or, bit_xor, max, slice_index}
 use Rattle.std.specs.Int.{bit_at, from_bool}
 use Rattle.std.proofs.lemmas.Bool.{cases_lt, cases_eq}
@@ -74,7 +75,8 @@ fails_skipped test from flags k below fail ones = record {
 }
 
 -- whether a pilot fits, by its kept hash
-pub fits_kept : (table : Table) (hashes members : List ℕ) (seed size pilot : ℕ) → size ≡ table.size → AreHashes seed hashes → pilot < length hashes →
+pub fits_kept : (table : Table) (hashes members : List ℕ) (seed size pilot : ℕ) → size ≡ table.size →
+    AreHashes seed hashes → pilot < length hashes →
     pilot_fits seed size (contains table.taken) members pilot ≡ fits (contains table.taken) (positions_under (slice_index hashes pilot) table.size members)
 fits_kept table hashes members seed size pilot same kept within =
     ap (λ s. fits (contains table.taken) (positions_under (pilot_hash pilot seed) s members)) same

@@ -42,7 +42,8 @@ among_more xs x y known other =
     ] refl
 
 -- one more number is marked
-pub marked_more : (marks numbers : List ℕ) (x : ℕ) → AreMarks marks numbers → AreMarks (set_bit marks 0 (mark_of (length marks) x)) (numbers ++ x ∷ [])
+pub marked_more : (marks numbers : List ℕ) (x : ℕ) → AreMarks marks numbers →
+    AreMarks (set_bit marks 0 (mark_of (length marks) x)) (numbers ++ x ∷ [])
 marked_more marks numbers x so_far =
     let n : ℕ = length marks in
     let bit : ℕ = mark_of n x in
@@ -69,7 +70,8 @@ marked_more marks numbers x so_far =
           ∙ list_any-append (λ z. nat_eq z w) (map (word_of_mark n) numbers) (word_of_mark n x ∷ []) in
           let parts = or_parts (is_among (map (word_of_mark n) numbers) w) (nat_eq (word_of_mark n x) w || false) (sym split ∙ none_here) in
           let last = or_parts (nat_eq (word_of_mark n x) w) false parts.1 in
-          let apart : w ≢ word_of 0 bit = λ same_word. both_ways (nat_eq (word_of_mark n x) w) last.0 (eq-eqb (word_of_mark n x) w (sym (same_word ∙ e))) in
+          let apart : w ≢ word_of 0 bit = λ same_word. both_ways (nat_eq (word_of_mark n x) w) last.0
+          (eq-eqb (word_of_mark n x) w (sym (same_word ∙ e))) in
           get_or-set_other marks (word_of 0 bit) w (bit_or (get_or marks (word_of 0 bit) 0) (2 ^ (bit % 64))) 0 apart ∙ so_far.only w parts.0;
     }
 

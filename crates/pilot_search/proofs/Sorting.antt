@@ -1,5 +1,6 @@
 -- Numbers that are sorted to see whether one comes twice.
-use Rattle.std.proofs.Common.{◌≡◌, ℕ, zero, suc, ◌+◌, ◌-◌, ◌<◌, ◌≤◌, true, false, List, [], ◌∷◌, length, take, get_or, refl, sym, ap, ◌∙◌, arith, ⊎_elim}
+use Rattle.std.proofs.Common.{◌≡◌, ◌+◌, ◌-◌, ◌<◌, ◌≤◌, ◌∷◌, ◌∙◌}
+use Rattle.std.proofs.Common.{ℕ, zero, suc, true, false, List, [], length, take, get_or, refl, sym, ap, arith, ⊎_elim}
 use Rattle.std.specs.Prelude.{◌==◌}
 use Rattle.std.specs.List.Sorted.{IsPermutation, IsSorted}
 use Rattle.std.specs.Ordering.{nat_cmp, is_lt}
@@ -37,7 +38,8 @@ none_among xs (suc i) x within below =
     let apart : get_or xs i 0 ≡ x → ⊥ = λ same. omega (arith, below i (omega arith), same) in
     ap (λ n. is_among (take n xs) x) one
     ∙ list_any_more (λ y. y == x) xs i 0 (omega arith)
-    ∙ or_from (is_among (take i xs) x) (get_or xs i 0 == x) (none_among xs i x (omega arith) (λ k lower. below k (omega arith))) (ne_eqb (get_or xs i 0) x apart)
+    ∙ or_from (is_among (take i xs) x) (get_or xs i 0 == x)
+    (none_among xs i x (omega arith) (λ k lower. below k (omega arith))) (ne_eqb (get_or xs i 0) x apart)
 
 -- the number before is one of the earlier ones
 pub last_among : (xs : List ℕ) (i x : ℕ) → 1 ≤ i → i ≤ length xs → get_or xs (i - 1) 0 ≡ x → is_among (take i xs) x ≡ true

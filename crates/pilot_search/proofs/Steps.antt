@@ -48,7 +48,8 @@ pub task_positions : (plan : SearchPlan) (rank seed size limit : ℕ) (members :
 task_positions plan rank seed size limit members k task = rw (task.same_seed, task.same_size, task.same_members) refl
 
 -- after one more bucket, which has this pilot
-pub placed_more : (plan : SearchPlan) (rank k : ℕ) (pilots : List ℕ) (table after : Table) → rank < length plan.buckets → IsSearchedTo plan rank pilots table
+pub placed_more : (plan : SearchPlan) (rank k : ℕ) (pilots : List ℕ) (table after : Table) → rank < length plan.buckets →
+    IsSearchedTo plan rank pilots table
     → pilot_of plan.seed plan.size plan.limit (contains table.taken) (bucket_at plan.buckets rank).members ≡ Some k
     → after.size ≡ table.size
     → after.taken ≡ union table.taken (from_list (positions_of plan.seed plan.size (bucket_at plan.buckets rank).members k))
@@ -118,4 +119,5 @@ known_pilot plan rank pilots known table so_far theirs in_range =
 pub finished : (plan : SearchPlan) (pilots : List ℕ) (table : Table) → IsSearchedTo plan (length plan.buckets) pilots table →
     search_of plan ≡ Ok (record { pilots = pilots; taken = table.taken })
 finished plan pilots table so_far =
-    so_far.state ∙ ap (λ ps. Ok (record { pilots = ps; taken = table.taken })) (take_all (length plan.buckets) pilots (omega (arith, so_far.one_number_a_rank)))
+    so_far.state
+    ∙ ap (λ ps. Ok (record { pilots = ps; taken = table.taken })) (take_all (length plan.buckets) pilots (omega (arith, so_far.one_number_a_rank)))

@@ -1,5 +1,6 @@
 -- A table's words, seen as the set of the positions whose bits are set.
-use Rattle.std.proofs.Common.{◌≡◌, ℕ, ◌*◌, ◌%◌, ◌<◌, ◌≤◌, ◌||◌, false, List, [], ◌++◌, length, take, drop, get_or, refl, sym, ap, ◌∙◌, subst, arith, ⊎_elim}
+use Rattle.std.proofs.Common.{◌≡◌, ◌*◌, ◌%◌, ◌<◌, ◌≤◌, ◌||◌, ◌++◌, ◌∙◌}
+use Rattle.std.proofs.Common.{ℕ, false, List, [], length, take, drop, get_or, refl, sym, ap, subst, arith, ⊎_elim}
 use Rattle.std.specs.Prelude.{nat_eq, replicate}
 use Rattle.std.specs.Int.{bit_at}
 use Rattle.std.specs.FinSet.{empty, insert}

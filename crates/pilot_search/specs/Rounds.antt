@@ -5,7 +5,7 @@ use Rattle.pthash.specs.Order.{bucket_at}
 use Rattle.pthash.specs.Search.{SearchPlan, pilot_fits}
 use Rattle.pthash.specs.Least.{FailsBelow}
 use Rattle.pilot_search.specs.Table.{Table}
-use Rattle.pilot_search.specs.declared.rounds.Share.{Share}
+use Rattle.pilot_search.specs.declared.shares.Share.{Share}
 
 -- no lower pilot fits the bucket at a rank in this table
 abbrev pub HasNoLower : SearchPlan → Table → ℕ → ℕ → Type 0

@@ -12,6 +12,7 @@ mod plan;
 mod repeats;
 mod rounds;
 mod scratch;
+mod shares;
 mod single;
 #[cfg(test)]
 mod tests;

@@ -80,25 +80,27 @@ pub(crate) fn place_bucket(
     }
 }
 
-// Places the buckets from a rank on.
-fn place_ranks(
+// Places the buckets of these ranks, one after another.
+pub(crate) fn place_ranks(
     plan: &Plan,
     start: u64,
+    end: u64,
+    size: &Divisor,
     pilots: &mut [u64],
     occupied: &mut Occupancy,
     scratch: &mut Scratch,
 ) -> Result<(), Stuck>
-    requires start { start ≤ length plan.now.buckets }
-    requires room { most_members plan.now.buckets ≤ scratch.old.members }
+    requires start { start ≤ end }
+    requires end { end ≤ length plan.now.buckets }
     requires so_far { IsSearchedTo plan.now start pilots.old occupied.old }
-    ensures placed { let ranks = length plan.now.buckets in
-        OnOk result (IsSearchedTo plan.now ranks pilots.new occupied.new) }
+    requires divisor { size.now ≡ plan.now.size }
+    requires room { most_members plan.now.buckets ≤ scratch.old.members }
+    ensures placed { OnOk result (IsSearchedTo plan.now end pilots.new occupied.new) }
     ensures stuck { IfErr result (λ stuck. IsStuckAt plan.now stuck) }
     ensures room { scratch.new.members ≡ scratch.old.members }
 {
-    let size = Divisor::new(plan.size());
-    for rank in start..plan.ranks() {
-        place_bucket(plan, rank, 0, &size, pilots, occupied, scratch)?;
+    for rank in start..end {
+        place_bucket(plan, rank, 0, size, pilots, occupied, scratch)?;
     }
     Ok(())
 }
@@ -112,9 +114,12 @@ pub fn place_from(plan: &Plan, placed: Placed, scratch: &mut Scratch) -> Result<
     ensures room { scratch.new.members ≡ scratch.old.members }
 {
     let mut placed = placed;
+    let size = Divisor::new(plan.size());
     place_ranks(
         plan,
         placed.done,
+        plan.ranks(),
+        &size,
         &mut placed.pilots,
         &mut placed.occupied,
         scratch,

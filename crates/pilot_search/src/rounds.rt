@@ -1,126 +1,34 @@
 // A search in rounds: runs of buckets are tested at the same time, and then placed in order.
 
-ghost use Rattle.std.specs.Prelude.{◌≡◌, ◌<◌, ◌≤◌, ◌+◌, ◌^◌, All, length, OnOk, IfOk, IfErr};
-ghost use Rattle.pthash.specs.Order.{bucket_at, most_members};
+ghost use Rattle.std.specs.Prelude.{◌≡◌, ◌<◌, ◌≤◌, ◌^◌, All, length, OnOk, IfOk, IfErr};
+ghost use Rattle.pthash.specs.Order.{most_members};
 ghost use Rattle.pthash.specs.Search.{SearchPlan};
 ghost use Rattle.pilot_search.specs.Table.{Table};
 ghost use Rattle.pilot_search.specs.Outcome.{IsSearchedTo, IsPlacedSoFar, IsPlaced, IsStuckAt};
-ghost use Rattle.pilot_search.specs.Rounds.{HasNoLower, HaveNoLower, IsTested};
+ghost use Rattle.pilot_search.specs.Rounds.{HasNoLower, IsTested};
 
 use crate::occupancy::Occupancy;
-use crate::placing::{Placed, Stuck, place_bucket};
+use crate::placing::{Placed, Stuck, place, place_bucket, place_ranks};
 use crate::plan::Plan;
 use crate::scratch::Scratch;
+use crate::shares::{Share, shares_of};
 use bucket_map::NoMemory;
 use divisor::Divisor;
-use std::alloc::{AllocError, Global};
+use std::alloc::Global;
 use std::thread;
 use std::thread::Threads;
 
-// So many rounds search a large plan: starting threads is then a small part of each.
+// A run has at most as many buckets as make so many rounds of a large plan.
 const ROUNDS: u64 = 64;
 
-// What one thread of a round is lent: the first rank of its run, and for each rank of it where the search goes on.
-#[derive(Drop)]
-pub(crate) struct Share {
-    pub(crate) start: u64,
-    pub(crate) firsts: Vec<u64>,
-    pub(crate) scratch: Scratch,
-}
+// So many buckets are placed alone before it is asked again, and a run of a small plan may have as many.
+const FEW: u64 = 64;
 
-impl Share {
-    fn new(alloc: Global, plan: &Plan, run: u64) -> Result<Self, NoMemory>
-        requires { run ≤ 2 ^ 32 }
-    {
-        let firsts = vec![in alloc; 0; run as usize]?;
-        let scratch = Scratch::new(alloc, plan)?;
-        Ok(Self {
-            start: 0,
-            firsts,
-            scratch,
-        })
-    }
+// A thread is worth its start where so many pilots are likely to be tried in its run.
+const WORTH: u64 = 65_536;
 
-    // Tests the buckets of the run.
-    fn test(&mut self, plan: &Plan, occupied: &Occupancy)
-        ensures { IsTested plan.now occupied.now self.new }
-    {
-        let size = Divisor::new(occupied.size());
-        let start = self.start;
-        test_run(
-            plan,
-            occupied,
-            &size,
-            start,
-            self.firsts.as_mut_slice(),
-            &mut self.scratch,
-        );
-    }
-
-    // Where the search for the pilot of a bucket goes on.
-    fn first(&self, rank: u64) -> u64
-        ensures { (plan : SearchPlan) (table : Table) → IsTested plan table self.now →
-            rank < length plan.buckets → HasNoLower plan table rank result }
-    {
-        if rank < self.start {
-            return 0;
-        }
-        let place = rank - self.start;
-        if place < self.firsts.len() as u64 {
-            self.firsts[place as usize]
-        } else {
-            0
-        }
-    }
-}
-
-// Writes for each bucket of a run where its search goes on.
-fn test_run(
-    plan: &Plan,
-    occupied: &Occupancy,
-    size: &Divisor,
-    start: u64,
-    firsts: &mut [u64],
-    scratch: &mut Scratch,
-)
-    requires { size.now ≡ occupied.now.size }
-    ensures { HaveNoLower plan.now occupied.now start firsts.new }
-{
-    for i in 0..firsts.len() {
-        firsts[i] = first_fitting(plan, occupied, size, start, i as u64, scratch);
-    }
-}
-
-// The first pilot that fits the bucket at a place of a run, or the limit; 0 where the bucket can't be tested.
-fn first_fitting(
-    plan: &Plan,
-    occupied: &Occupancy,
-    size: &Divisor,
-    start: u64,
-    place: u64,
-    scratch: &mut Scratch,
-) -> u64
-    requires { size.now ≡ occupied.now.size }
-    ensures { start + place < length plan.now.buckets →
-        HasNoLower plan.now occupied.now (start + place) result }
-{
-    let ranks = plan.ranks();
-    if start >= ranks {
-        return 0;
-    }
-    if place >= ranks - start {
-        return 0;
-    }
-    let rank = start + place;
-    let members = plan.members(rank);
-    if members.len() as u64 > scratch.members() {
-        return 0;
-    }
-    match scratch.find_pilot(members, 0, plan.seed(), plan.limit(), size, occupied) {
-        Some(pilot) => pilot,
-        None => plan.limit(),
-    }
-}
+// Runs are so long that about so many pilots are tried in each, so that few buckets are tested in a table that has changed.
+const WORK: u64 = 131_072;
 
 /// The whole search in rounds of so many threads, with the answer of `place`.
 pub fn place_rounds<R: Threads + Sync>(
@@ -134,28 +42,14 @@ pub fn place_rounds<R: Threads + Sync>(
     ensures placed { IfOk result (λ answer. IfOk answer (λ placed. IsPlaced plan.now placed)) }
     ensures stuck { IfOk result (λ answer. IfErr answer (λ stuck. IsStuckAt plan.now stuck)) }
 {
-    let run = plan.ranks() / (ROUNDS * u64::from(workers)) + 1;
-    let mut shares = shares_of(alloc, plan, run, workers)?;
+    if workers == 1 {
+        return place(alloc, plan);
+    }
+    let most = plan.ranks() / (ROUNDS * u64::from(workers)) + FEW;
+    let mut shares = shares_of(alloc, plan, most, workers)?;
     let mut scratch = Scratch::new(alloc, plan)?;
     let placed = Placed::new(alloc, plan)?;
-    Ok(place_all(rt, plan, placed, &mut shares, run, &mut scratch))
-}
-
-fn shares_of(alloc: Global, plan: &Plan, run: u64, workers: u32) -> Result<Vec<Share>, NoMemory>
-    requires run { run ≤ 2 ^ 32 }
-    requires some { 1 ≤ workers }
-    ensures some { IfOk result (λ shares. 1 ≤ length shares.items) }
-    ensures bound { IfOk result (λ shares. length shares.items ≤ workers) }
-{
-    let mut shares = Vec::with_capacity(alloc, workers as usize)?;
-    for _ in 0..workers {
-        let share = Share::new(alloc, plan, run)?;
-        match shares.push(share) {
-            Ok(()) => {}
-            Err(refused) => return Err(AllocError::from(refused).into()),
-        }
-    }
-    Ok(shares)
+    Ok(place_all(rt, plan, placed, &mut shares, most, &mut scratch))
 }
 
 fn place_all<R: Threads + Sync>(
@@ -163,15 +57,15 @@ fn place_all<R: Threads + Sync>(
     plan: &Plan,
     placed: Placed,
     shares: &mut [Share],
-    run: u64,
+    most: u64,
     scratch: &mut Scratch,
 ) -> Result<Placed, Stuck>
     requires new { placed.done ≡ 0 }
     requires so_far { IsPlacedSoFar plan.now placed }
     requires shares { 1 ≤ length shares.old }
     requires bound { length shares.old ≤ 64 }
-    requires run { 1 ≤ run }
-    requires run_bound { run ≤ 2 ^ 32 }
+    requires most { 1 ≤ most }
+    requires most_bound { most ≤ 2 ^ 32 }
     requires room { most_members plan.now.buckets ≤ scratch.old.members }
     ensures placed { IfOk result (λ placed. IsPlaced plan.now placed) }
     ensures stuck { IfErr result (λ stuck. IsStuckAt plan.now stuck) }
@@ -181,7 +75,7 @@ fn place_all<R: Threads + Sync>(
         rt,
         plan,
         shares,
-        run,
+        most,
         placed.pilots.as_mut_slice(),
         &mut placed.occupied,
         scratch,
@@ -190,12 +84,12 @@ fn place_all<R: Threads + Sync>(
     Ok(placed)
 }
 
-// One round after another, until all buckets are placed.
+// Places the next buckets time after time, until none is left.
 fn place_in_rounds<R: Threads + Sync>(
     rt: &R,
     plan: &Plan,
     shares: &mut [Share],
-    run: u64,
+    most: u64,
     pilots: &mut [u64],
     occupied: &mut Occupancy,
     scratch: &mut Scratch,
@@ -203,25 +97,83 @@ fn place_in_rounds<R: Threads + Sync>(
     requires so_far { IsSearchedTo plan.now 0 pilots.old occupied.old }
     requires shares { 1 ≤ length shares.old }
     requires bound { length shares.old ≤ 64 }
-    requires run { 1 ≤ run }
-    requires run_bound { run ≤ 2 ^ 32 }
+    requires most { 1 ≤ most }
+    requires most_bound { most ≤ 2 ^ 32 }
     requires room { most_members plan.now.buckets ≤ scratch.old.members }
     ensures placed { let ranks = length plan.now.buckets in
         OnOk result (IsSearchedTo plan.now ranks pilots.new occupied.new) }
     ensures stuck { IfErr result (λ stuck. IsStuckAt plan.now stuck) }
 {
     let size = Divisor::new(plan.size());
-    let ranks = plan.ranks();
     let mut start = 0;
-    while start < ranks {
-        let end = ranks.min(start + run * shares.len() as u64);
-        test_shares(rt, plan, occupied, shares, start, run);
-        place_round(
-            plan, start, end, run, shares, &size, pilots, occupied, scratch,
+    let mut run = 0;
+    while start < plan.ranks() {
+        let end = place_next(
+            rt, plan, start, run, most, shares, &size, pilots, occupied, scratch,
         )?;
+        run = next_run(&pilots[start as usize..end as usize], most);
         start = end;
     }
     Ok(())
+}
+
+// How long the runs of the next round are, by the pilots of the buckets before it; 0 where no thread is worth its start.
+fn next_run(pilots: &[u64], most: u64) -> u64
+    requires { 1 ≤ most }
+    ensures { result ≤ most }
+{
+    let mut sum = 0u64;
+    for pilot in pilots {
+        sum = sum.saturating_add(*pilot);
+    }
+    let mean = sum / (pilots.len() as u64).max(1);
+    if mean < WORTH / most {
+        0
+    } else {
+        most.min(WORK / mean.saturating_add(1) + 1)
+    }
+}
+
+// Places some of the next buckets, by a round where runs are not 0 long and else alone, and gives the rank of the next one.
+fn place_next<R: Threads + Sync>(
+    rt: &R,
+    plan: &Plan,
+    start: u64,
+    run: u64,
+    most: u64,
+    shares: &mut [Share],
+    size: &Divisor,
+    pilots: &mut [u64],
+    occupied: &mut Occupancy,
+    scratch: &mut Scratch,
+) -> Result<u64, Stuck>
+    requires start { start < length plan.now.buckets }
+    requires run { run ≤ most }
+    requires most { 1 ≤ most }
+    requires most_bound { most ≤ 2 ^ 32 }
+    requires shares { 1 ≤ length shares.old }
+    requires bound { length shares.old ≤ 64 }
+    requires so_far { IsSearchedTo plan.now start pilots.old occupied.old }
+    requires divisor { size.now ≡ plan.now.size }
+    requires room { most_members plan.now.buckets ≤ scratch.old.members }
+    ensures placed { IfOk result (λ end. IsSearchedTo plan.now end pilots.new occupied.new) }
+    ensures further { IfOk result (λ end. start < end) }
+    ensures within { IfOk result (λ end. end ≤ length plan.now.buckets) }
+    ensures stuck { IfErr result (λ stuck. IsStuckAt plan.now stuck) }
+    ensures shares { length shares.new ≡ length shares.old }
+    ensures room { scratch.new.members ≡ scratch.old.members }
+{
+    if run == 0 {
+        let end = plan.ranks().min(start + FEW);
+        place_ranks(plan, start, end, size, pilots, occupied, scratch)?;
+        return Ok(end);
+    }
+    let end = plan.ranks().min(start + run * shares.len() as u64);
+    test_shares(rt, plan, occupied, shares, start, run);
+    place_round(
+        plan, start, end, run, shares, size, pilots, occupied, scratch,
+    )?;
+    Ok(end)
 }
 
 // Tests the runs of all shares at the same time.
@@ -234,7 +186,8 @@ fn test_shares<R: Threads + Sync>(
     run: u64,
 )
     requires { 1 ≤ length shares.old }
-    ensures { All (IsTested plan.now occupied.now) shares.new }
+    ensures tested { All (IsTested plan.now occupied.now) shares.new }
+    ensures shares { length shares.new ≡ length shares.old }
 {
     let mut next = start;
     for share in shares.iter_mut() {
@@ -246,7 +199,7 @@ fn test_shares<R: Threads + Sync>(
         rt,
         shares,
         threads,
-        &|_, share: &mut Share| share.test(plan, occupied),
+        &|_, share: &mut Share| share.test(plan, occupied, run),
     );
 }
 

@@ -3,6 +3,7 @@
 ghost use Rattle.std.specs.Prelude.{◌≡◌, ◌-◌, ◌≤◌, [], ◌++◌, length, replicate, take, IfOk, IfSome, OnOk, OnErr};
 ghost use Rattle.std.specs.FinSet.{contains};
 ghost use Rattle.pthash.specs.declared.TheConstants.{MAX_POSITIONS};
+ghost use Rattle.pthash.specs.Hash.{pilot_hash};
 ghost use Rattle.pthash.specs.Order.{most_members};
 ghost use Rattle.pthash.specs.Search.{is_distinct, pilot_fits, positions_of};
 ghost use Rattle.pthash.specs.Least.{FailsBelow, IsAnswer};
@@ -63,6 +64,36 @@ impl Scratch {
         ensures { IfOk result (λ scratch. scratch.members ≡ members) }
     {
         Ok(room_for(alloc, members, MOST_HASHES, 0)?)
+    }
+
+    /// Makes room for buckets of so many members, and keeps what room there is.
+    pub fn serve(&mut self, members: u64) -> Result<(), NoMemory>
+        requires { members ≤ MAX_POSITIONS }
+        ensures ok { OnOk result (members ≤ self.new.members) }
+        ensures kept { self.old.members ≤ self.new.members }
+        ensures err { OnErr result (self.new ≡ self.old) }
+    {
+        if members > self.positions.len() as u64 {
+            let words = (members / 8 + 1).next_power_of_two();
+            lengthen(&mut self.marks, words as usize)?;
+            lengthen(&mut self.positions, members as usize)?;
+        }
+        Ok(())
+    }
+
+    /// The hash of a pilot, kept where it is one of the first.
+    #[inline]
+    pub fn pilot_hash(&mut self, pilot: u64, seed: u64) -> u64
+        ensures hash { result ≡ pilot_hash pilot seed }
+        ensures kept { self.new ≡ self.old }
+    {
+        keep_hashes(&mut self.hashes, self.seed, seed);
+        self.seed = seed;
+        if pilot < self.hashes.len() as u64 {
+            self.hashes[pilot as usize]
+        } else {
+            pilot_hash(pilot, seed)
+        }
     }
 
     /// The positions that were computed last, in the order of the bucket's members.
@@ -189,27 +220,11 @@ fn fill_hashes(hashes: &mut [u64], seed: u64)
 // Writes the position of each member to its place.
 fn write_positions(members: &[u64], hash: u64, size: &Divisor, positions: &mut [u64])
     requires { length members.now ≤ length positions.old }
-    ensures { take (length members.now) positions.new ≡ positions_under hash size.now members.now }
+    ensures { let places = positions_under hash size.now members.now in
+        take (length members.now) positions.new ≡ places }
 {
     for (i, member) in members.iter().enumerate() {
         positions[i] = size.remainder(*member ^ hash);
-    }
-}
-
-impl Scratch {
-    /// Makes room for buckets of so many members, and keeps what room there is.
-    pub fn serve(&mut self, members: u64) -> Result<(), NoMemory>
-        requires { members ≤ MAX_POSITIONS }
-        ensures ok { OnOk result (members ≤ self.new.members) }
-        ensures kept { self.old.members ≤ self.new.members }
-        ensures err { OnErr result (self.new ≡ self.old) }
-    {
-        if members > self.positions.len() as u64 {
-            let words = (members / 8 + 1).next_power_of_two();
-            lengthen(&mut self.marks, words as usize)?;
-            lengthen(&mut self.positions, members as usize)?;
-        }
-        Ok(())
     }
 }
 

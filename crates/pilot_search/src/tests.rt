@@ -1,3 +1,5 @@
+// Searches worked by hand, and pilots and hashes of independent programs.
+
 ghost use Rattle.std.specs.Prelude.{◌≡◌, ◌≤◌, length, IfOk};
 ghost use Rattle.pthash.specs.Order.{most_members};
 ghost use Rattle.pilot_search.specs.Outcome.{IsPlacedSoFar, IsPlaced};
@@ -13,6 +15,8 @@ const SEED_OF_ZERO: u64 = 3_829_533_694_005_038_248;
 const SIZE: u64 = 5;
 
 const PILOTS: u64 = 16_777_216;
+
+const ODD: u64 = 0x9e37_79b9_7f4a_7c15;
 
 // A pair of hashes of a key, of which no more is known.
 fn record(a: u64, b: u64) -> Record {
@@ -82,15 +86,14 @@ fn one_bucket_after_another_without_a_plan(rt: HostRuntime) -> Result<(), Fail> 
 // The pilots are those of an independent program.
 #[test]
 fn pilots_of_one_bucket(rt: HostRuntime) -> Result<(), Fail> {
-    let odd: u64 = 0x9e37_79b9_7f4a_7c15;
     let cases: [(u64, u64, u64, u64); 7] = [
-        (16, odd, 100, 2),
-        (17, odd, 100, 3),
-        (40, odd, 600, 4),
+        (16, ODD, 100, 2),
+        (17, ODD, 100, 3),
+        (40, ODD, 600, 4),
         (2000, 1, 2003, 30),
         (2000, 1, 2047, 13),
         (70_000, 1, 100_003, 1),
-        (11, odd, 11, 7029),
+        (11, ODD, 11, 7029),
     ];
     for (count, factor, size, pilot) in cases {
         let mut members = Vec::new(rt.alloc());
@@ -107,6 +110,44 @@ fn pilots_of_one_bucket(rt: HostRuntime) -> Result<(), Fail> {
         let found = place_one(1, PILOTS, &members, &mut occupied, &mut scratch);
         assert_eq!(rt; found, Some(pilot), "{count} members");
         assert_eq!(rt; occupied.count(), count, "{count} members");
+    }
+    Ok(())
+}
+
+// After 64 buckets of five members, whose pilots are high, those of one are placed in rounds. The pilots are those of an
+// independent program.
+#[test]
+fn rounds_come_after_high_pilots(rt: HostRuntime) -> Result<(), Fail> {
+    let mut records = Vec::new(rt.alloc());
+    for i in 0..344 {
+        let bucket: u64 = if i < 320 { i % 64 } else { i - 256 };
+        records.push(record(bucket, i.wrapping_mul(ODD)))?;
+    }
+    assert!(rt; records.len() <= 344);
+    let plan = Plan {
+        seed: 1,
+        size: 344,
+        limit: PILOTS,
+        buckets: ordered_buckets(rt.alloc(), &records, Map::Skewed, 294)?,
+    };
+    let last: [u64; 28] = [
+        3468, 199_342, 198_391, 768_354, 26, 14, 3, 20, 4, 9, 2, 34, 42, 40, 12, 3, 0, 67, 13, 36,
+        8, 69, 100, 358, 63, 207, 121, 679,
+    ];
+    let answers = [
+        place(rt.alloc(), &plan)?,
+        place_rounds(&rt, rt.alloc(), &plan, 2)?,
+        place_rounds(&rt, rt.alloc(), &plan, 64)?,
+    ];
+    for answer in answers {
+        match answer {
+            Ok(found) => {
+                let pilots = found.pilots.as_slice();
+                assert_eq!(rt; pilots.len(), 88);
+                assert_eq!(rt; &pilots[60..], last.as_slice());
+            }
+            Err(_) => panic!(rt; "the search is stuck"),
+        }
     }
     Ok(())
 }
@@ -143,6 +184,21 @@ fn the_positions_of_a_bucket_are_spread(rt: HostRuntime) -> Result<(), Fail> {
     assert!(rt; 0 < plan.ranks());
     assert!(rt; spread(&plan, 0, 0, &mut scratch));
     assert_eq!(rt; scratch.positions(), [0, 1].as_slice());
+    Ok(())
+}
+
+#[test]
+fn hashes_of_pilots_are_kept_or_computed(rt: HostRuntime) -> Result<(), Fail> {
+    let mut scratch = Scratch::with(rt.alloc(), 1)?;
+    let cases: [(u64, u64, u64); 4] = [
+        (7, 1, 12_982_362_733_409_533_052),
+        (1, 1, 5_833_352_340_892_006_082),
+        (16_777_215, 8, 16_778_396_237_004_748_789),
+        (0, 0, 8_217_090_173_679_840_641),
+    ];
+    for (pilot, seed, hash) in cases {
+        assert_eq!(rt; scratch.pilot_hash(pilot, seed), hash, "pilot {pilot}");
+    }
     Ok(())
 }
 

@@ -1,4 +1,5 @@
-use Rattle.std.proofs.Common.{◌≡◌, ℕ, ◌+◌, ◌/◌, ◌^◌, ◌<◌, ◌≤◌, Bool, true, false, length, sym, ap, ◌∙◌, subst, arith, ⊎_elim}
+use Rattle.std.proofs.Common.{◌≡◌, ◌+◌, ◌/◌, ◌^◌, ◌<◌, ◌≤◌, ◌∙◌}
+use Rattle.std.proofs.Common.{ℕ, Bool, true, false, length, sym, ap, subst, arith, ⊎_elim}
 use Rattle.std.specs.Int.{bit_at, w64}
 use Rattle.std.specs.FinSet.{contains}
 use Rattle.std.proofs.lemmas.Bool.{cases_lt}
@@ -46,7 +47,8 @@ loop-next-preserved c =
     let skipped : FailsBelow test pilot = fails_skipped test next flags c.from.result
     c.loop-next.invariant.fails c.loop-next.invariant.flagged (λ i within. ones i (omega (arith, within, c.from.ensures, c.trailing_ones-skipped.ensures))) in
     let kept : pilot < length c.args.hashes.now = omega (arith, c.if-pilot-end.false, c.requires.group) in
-    let last : test pilot ≡ false = fits_kept table c.args.hashes.now c.args.members.now c.args.seed c.args.size.now pilot c.requires.size c.requires.hashes kept
+    let last : test pilot ≡ false =
+    fits_kept table c.args.hashes.now c.args.members.now c.args.seed c.args.size.now pilot c.requires.size c.requires.hashes kept
     ∙ sym c.is_fit.ensures.fits ∙ c.if-is_fit.false in
     record {
       bound = omega (arith, c.loop-next.invariant.bound, shr_le flags count);

@@ -11,5 +11,6 @@ returns-clause-fail c =
     let test : ℕ → Bool = is_free_under c.args.hashes.now c.args.member table in
     let word : ℕ = bit_xor c.args.member (slice_index c.args.hashes.now c.args.from) in
     let position : c.remainder.result ≡ word % table.size = c.remainder.ensures.value ∙ ap (λ s. word % s) c.requires.size in
-    let known : test c.args.from ≡ not c.contains-is_taken.result = ap (λ p. not (contains table.taken p)) (sym position) ∙ ap not (sym c.contains-is_taken.ensures) in
+    let known : test c.args.from ≡ not c.contains-is_taken.result =
+    ap (λ p. not (contains table.taken p)) (sym position) ∙ ap not (sym c.contains-is_taken.ensures) in
     subst (FailWhereSet test c.args.from) (sym c.from.ensures) (one_flag test c.args.from c.contains-is_taken.result known)

@@ -10,4 +10,5 @@ returns-clause-fail c =
     let high : ℕ = c.flags_of_four-high.result in
     let same : high * 2 ^ 4 + low ≡ low + 16 * high = omega arith in
     subst (FailWhereSet test c.args.from) same
-    (joined_flags test c.args.from 4 low high (omega (arith, c.flags_of_four-low.ensures.bound)) c.flags_of_four-low.ensures.fail c.flags_of_four-high.ensures.fail)
+    (joined_flags test c.args.from 4 low high (omega (arith, c.flags_of_four-low.ensures.bound))
+    c.flags_of_four-low.ensures.fail c.flags_of_four-high.ensures.fail)

@@ -1,4 +1,4 @@
-use Rattle.std.proofs.Common.{◌≡◌, ℕ, ◌+◌, ◌*◌, ◌^◌, ◌<◌, Bool, subst, arith}
+use Rattle.std.proofs.Common.{◌≡◌, ℕ, ◌+◌, ◌*◌, ◌^◌, Bool, subst, arith}
 use Rattle.pilot_search.specs.Flags.{FailWhereSet, is_free_under}
 use Rattle.pilot_search.proofs.FlagLemmas.{joined_flags}
 use Rattle.pilot_search.proofs.groups.flags_of_two.Goals as goal

@@ -1,4 +1,4 @@
-use Rattle.std.proofs.Common.{◌<◌, ◌≤◌, sym, ◌∙◌, arith, ⊎_elim}
+use Rattle.std.proofs.Common.{◌<◌, ◌≤◌, arith, ⊎_elim}
 use Rattle.std.specs.FinSet.{contains}
 use Rattle.std.proofs.lemmas.Bool.{cases_lt}
 use Rattle.pthash.specs.SearchLaws.{pilot_fits-repeated}

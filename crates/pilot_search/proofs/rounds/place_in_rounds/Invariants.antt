@@ -6,6 +6,8 @@ abbrev pub invariant-loop-start : goal.invariant-loop-start
 invariant-loop-start o l = record {
   so_far : IsSearchedTo l.plan l.start l.pilots l.occupied;
   within : l.start ≤ length l.plan.buckets;
+  run : l.run ≤ l.most;
+  shares : length l.shares ≡ length l.initial.shares;
   room : l.scratch.members ≡ l.initial.scratch.members;
 }
 

@@ -14,9 +14,11 @@ invariant_of-result c =
       positive = c.requires.some;
       bound = c.requires.bound;
       room = omega (arith, ap length zeros, length-replicate {A = ℕ} (c.args.size / 64 + 1) 0);
-      counted = sym (ap (λ ws. len (set_of c.args.size (is_set ws 0))) zeros ∙ ap len (set_of-zeros c.args.size (c.args.size / 64 + 1)) ∙ len-empty nat_cmp);
+      counted = sym (ap (λ ws. len (set_of c.args.size (is_set ws 0))) zeros
+          ∙ ap len (set_of-zeros c.args.size (c.args.size / 64 + 1)) ∙ len-empty nat_cmp);
     }
 
 pub returns-clause-taken : goal.returns-clause-taken
 returns-clause-taken c =
-    ap (λ ws. set_of c.args.size (is_set ws 0)) (c.in_ok-words.ensures.items_if_clones_equal (λ y same. same)) ∙ set_of-zeros c.args.size (c.args.size / 64 + 1)
+    ap (λ ws. set_of c.args.size (is_set ws 0)) (c.in_ok-words.ensures.items_if_clones_equal (λ y same. same))
+    ∙ set_of-zeros c.args.size (c.args.size / 64 + 1)

@@ -3,7 +3,7 @@ use Rattle.std.specs.Prelude.{slice_index, slice_set}
 use Rattle.std.proofs.lemmas.Bool.{cases_lt}
 use Rattle.std.proofs.lemmas.List.{get_or-set_same, get_or-set_other}
 use Rattle.pilot_search.specs.Rounds.{HasNoLower}
-use Rattle.pilot_search.proofs.rounds.test_run.Goals as goal
+use Rattle.pilot_search.proofs.shares.test_run.Goals as goal
 
 pub loop-i-preserved : goal.loop-i-preserved
 loop-i-preserved c = λ k below within.
