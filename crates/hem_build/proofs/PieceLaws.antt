@@ -139,6 +139,12 @@ pieces_all keys seed parts slots past last each =
     let same : i ≡ 0 + i = omega arith in
     subst (λ k. IfOk (slice_index_or slots i d) (IsPieceFrom keys seed parts (k * PIECE_KEYS))) same (each i d within))
 
+-- where no slots are left, all keys have had their pieces
+pub pieces_done : (keys : List (List ℕ)) (seed parts start : ℕ) (slots : List (Result MarkedPiece Want)) → length slots ≡ 0 →
+    ArePieces keys seed parts start slots → length keys ≤ start
+pieces_done keys seed parts start [] none are = are
+pieces_done keys seed parts start (slot ∷ slots) none are = absurd (omega arith)
+
 -- records that are cut as one piece have all partitions in it
 pub whole_all : (records : List Record) (parts : ℕ) (partitions : List (List Record)) (list : List (List (List Record))) → list ≡ partitions ∷ [] →
     partitions ≡ partitions_of records parts → All (λ piece. length piece ≡ parts) list

@@ -1,18 +1,18 @@
 // The keys of a list, hashed and cut by partition at the same time.
-ghost use Rattle.std.specs.Prelude.{◌≡◌, ℕ, ◌+◌, ◌*◌, ◌<◌, ◌≤◌, length, IfOk};
-ghost use Rattle.pthash.specs.declared.TheConstants.{MAX_KEYS, MAX_PARTITIONS};
+ghost use Rattle.std.specs.Prelude.{◌≡◌, ◌+◌, ◌-◌, ◌*◌, ◌<◌, ◌≤◌, min, length, IfOk};
+ghost use Rattle.pthash.specs.declared.TheConstants.{MAX_KEYS};
 ghost use Rattle.pthash.specs.Partitions.{partitions_of};
 ghost use Rattle.pthash.specs.Records.{records_of};
 ghost use Rattle.settings.specs.Workers.{workers_of};
 ghost use Rattle.build_outcome.specs.Mark.{mark_of};
-ghost use Rattle.hem_build.specs.KeyPieces.{IsPieceFrom, ArePieces};
+ghost use Rattle.hem_build.specs.KeyPieces.{piece_records, IsPieceFrom, ArePieces};
 ghost use Rattle.hem_build.specs.declared.cutting.TheConstants.{PIECE_KEYS};
 
 use crate::hashing::{blank_records, hash_share, records_of_keys};
 use crate::mark::{both_marks, mark_of_records};
 use crate::pieces::Pieces;
 use crate::workers::{group_count, worker_count};
-use bucket_map::{NoMemory, Partitions, cut_records, partitioned};
+use bucket_map::{NoMemory, Partitions, Record, cut_records, partitioned};
 use build_outcome::KeyMark;
 use pth_outside::KeyList;
 use settings::How;
@@ -145,12 +145,37 @@ fn cut_piece(
     requires within { start < length keys.now }
     ensures { IfOk result (IsPieceFrom keys.now seed parts start) }
 {
-    let count = PIECE_KEYS.min(keys.len() - start);
-    let mut records = blank_records(alloc, count as usize)?;
-    hash_share(keys, seed, start, records.as_mut_slice());
+    let records = records_of_piece(alloc, keys, seed, start)?;
     let mark = mark_of_records(&records);
     let partitions = partitioned(alloc, &records, parts)?;
     Ok(MarkedPiece { partitions, mark })
+}
+
+// The records of the keys of that piece.
+fn records_of_piece(
+    alloc: Global,
+    keys: &KeyList,
+    seed: u64,
+    start: u64,
+) -> Result<Vec<Record>, NoMemory>
+    requires few { length keys.now ≤ MAX_KEYS }
+    requires within { start < length keys.now }
+    ensures { IfOk result (λ records. records.items ≡ piece_records keys.now seed start) }
+{
+    let count = PIECE_KEYS.min(keys.len() - start);
+    let mut records = blank_records(alloc, count as usize)?;
+    hash_piece(keys, seed, start, records.as_mut_slice());
+    Ok(records)
+}
+
+// The same, written over others.
+fn hash_piece(keys: &KeyList, seed: u64, start: u64, records: &mut [Record])
+    requires few { length keys.now ≤ MAX_KEYS }
+    requires within { start < length keys.now }
+    requires count { length records.old ≡ min PIECE_KEYS (length keys.now - start) }
+    ensures { records.new ≡ piece_records keys.now seed start }
+{
+    hash_share(keys, seed, start, records);
 }
 
 // The pieces of all slots, and the mark of all keys.
