@@ -89,10 +89,7 @@ fn cut_whole<R: Threads + Sync>(
 }
 
 // A slot for each piece.
-fn empty_slots(
-    alloc: Global,
-    count: u64,
-) -> Result<Vec<Result<MarkedPiece, NoMemory>>, AllocError>
+fn empty_slots(alloc: Global, count: u64) -> Result<Vec<Result<MarkedPiece, NoMemory>>, AllocError>
     ensures { IfOk result (λ slots. length slots.items ≡ count) }
 {
     let mut slots = Vec::with_capacity(alloc, count as usize)?;
@@ -128,7 +125,9 @@ fn fill_slots<R: Threads + Sync>(
                 × (number * PIECE_KEYS < length keys.now) }
             ensures { IfOk slot.exit.now
                 (IsPieceFrom keys.entry.now seed parts (number * PIECE_KEYS)) }
-        { *slot = cut_piece(alloc, keys, seed, parts, number as u64 * PIECE_KEYS); },
+        {
+            *slot = cut_piece(alloc, keys, seed, parts, number as u64 * PIECE_KEYS);
+        },
     );
 }
 

@@ -66,12 +66,7 @@ pub(crate) fn build_partitions<R: Threads + Sync>(
 }
 
 // Where groups of neighbours with about as many records each begin; one more start is the end.
-fn group_starts(
-    alloc: Global,
-    counts: &[u64],
-    n: u64,
-    groups: u64,
-) -> Result<Vec<u64>, AllocError>
+fn group_starts(alloc: Global, counts: &[u64], n: u64, groups: u64) -> Result<Vec<u64>, AllocError>
     requires some { 1 ≤ groups }
     requires most { groups ≤ MOST_GROUPS }
     ensures { IfOk result (λ v. AreGroupStarts groups (length counts.now) v.items) }

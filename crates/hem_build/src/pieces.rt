@@ -86,11 +86,7 @@ fn count_among(pieces: &[Partitions], number: u64) -> usize
 }
 
 // Appends what pieces have of a partition.
-fn gather_into(
-    room: &mut Vec<Record>,
-    pieces: &[Partitions],
-    number: u64,
-) -> Result<(), AllocError>
+fn gather_into(room: &mut Vec<Record>, pieces: &[Partitions], number: u64) -> Result<(), AllocError>
     requires empty { room.old.items ≡ [] }
     requires held { All (λ piece. number < length piece) pieces.now }
     ensures { OnOk result (room.new.items ≡ gathered pieces.now number) }

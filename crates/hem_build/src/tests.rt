@@ -233,9 +233,7 @@ fn other_keys_have_values(rt: HostRuntime) -> Result<(), Fail> {
             64,
             SKEWED,
             1,
-            [
-                25, NONE, 25, NONE, NONE, NONE, NONE, 20, 17, 7, 5, 14, 23,
-            ],
+            [25, NONE, 25, NONE, NONE, NONE, NONE, 20, 17, 7, 5, 14, 23],
         ),
     ] {
         for how in SEARCHES {
@@ -261,15 +259,7 @@ fn other_keys_have_values(rt: HostRuntime) -> Result<(), Fail> {
 // Stands for a key without a value.
 const NONE: u64 = 1000;
 
-const BYTES: [&[u8]; 7] = [
-    b"",
-    b"x",
-    b"k3",
-    b"y",
-    b"\r",
-    &[0x00, 0xff],
-    &[0x80],
-];
+const BYTES: [&[u8]; 7] = [b"", b"x", b"k3", b"y", b"\r", &[0x00, 0xff], &[0x80]];
 
 // The key is alone in partition 5 of 8; that of another partition has no value.
 #[test]
