@@ -47,7 +47,8 @@ all_gathered-all pieces records parts each =
     gathered_at pieces parts i below ∙ each i below ∙ sym (partition_at records parts i below))
 
 -- the first pieces and one more
-pub gathered_more : (pieces : List (List (List Record))) (i part : ℕ) (piece : List (List Record)) → i < length pieces → get_or pieces i piece ≡ piece →
+pub gathered_more : (pieces : List (List (List Record))) (i part : ℕ) (piece : List (List Record)) →
+    i < length pieces → get_or pieces i piece ≡ piece →
     gathered (take (i + 1) pieces) part ≡ gathered (take i pieces) part ++ slice_index_or piece part []
 gathered_more pieces i part piece within at =
     ap (λ (ps : List (List (List Record))). gathered ps part) (take_more pieces i piece within)

@@ -153,7 +153,8 @@ whole_all records parts partitions list one cut =
     subst (λ ps. All own ps) (sym one) (All-cons own partitions [] (ap length cut ∙ length-partitions_of records parts) (All-nil own))
 
 -- and are the partitions of the records
-pub whole_gathered : (records : List Record) (parts : ℕ) (partitions : List (List Record)) (list : List (List (List Record))) → list ≡ partitions ∷ [] →
+pub whole_gathered : (records : List Record) (parts : ℕ) (partitions : List (List Record)) (list : List (List (List Record))) →
+    list ≡ partitions ∷ [] →
     partitions ≡ partitions_of records parts → all_gathered list parts ≡ partitions_of records parts
 whole_gathered records parts partitions list one cut =
     ap (λ (ps : List (List (List Record))). all_gathered ps parts) one
