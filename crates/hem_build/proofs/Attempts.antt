@@ -9,14 +9,15 @@ use Rattle.pthash.specs.Partitions.{partitions_of}
 use Rattle.pthash.specs.Records.{records_of}
 use Rattle.pthash.specs.RecordLaws.{length-records_of}
 use Rattle.pthash.specs.Sizes.{partition_of}
-use Rattle.build_outcome.specs.Attempt.{Rules, Attempt, clashed, stuck, attempt_of, parts_from, unless_clash}
+use Rattle.build_outcome.specs.Attempt.{Rules, Attempt, clashed, stuck, attempt_of, unless_clash}
 use Rattle.build_outcome.specs.AttemptLaws.{parts_of, attempt_of-stuck}
 use Rattle.build_outcome.specs.Clash.{clash_of}
 use Rattle.build_outcome.specs.Index.{PartData}
 use Rattle.hem_build.specs.Starts.{FewKeys}
 
 -- no partition has more records than the list
-partition_fits : (records : List Record) (parts part : ℕ) → part < parts → length (slice_index_or (partitions_of records parts) part []) ≤ length records
+partition_fits : (records : List Record) (parts part : ℕ) → part < parts →
+    length (slice_index_or (partitions_of records parts) part []) ≤ length records
 partition_fits records parts part within =
     let test : Record → Bool = λ r. partition_of r.a r.b parts == part in
     omega (arith, ap length (partition_at records parts part within), length-filter test records, count_by-le-length test records)
@@ -39,13 +40,6 @@ partitions_of_keys keys seed parts records partitions few are cut =
           ap (λ (ps : List (List Record)). length (slice_index_or ps k [])) cut in
           omega (arith, partition_fits records parts k (omega arith));
     }
-
--- what partitions come to, that of the keys comes to
-pub parts_of_partitions : (rules : Rules) (keys : List (List ℕ)) (seed : ℕ) (records : List Record) (partitions : List (List Record))
-    (answer : Result (List PartData) (ℕ × ℕ)) → records ≡ records_of keys seed → partitions ≡ partitions_of records rules.parts →
-    answer ≡ parts_from rules seed 0 partitions → parts_of rules keys seed ≡ answer
-parts_of_partitions rules keys seed records partitions answer are cut is =
-    sym (is ∙ ap (parts_from rules seed 0) (cut ∙ ap (λ (rs : List Record). partitions_of rs rules.parts) are))
 
 -- a stuck partition and a clash
 pub clashed_attempt : (rules : Rules) (keys : List (List ℕ)) (seed part bucket i j : ℕ) (answer : Option (ℕ × ℕ)) →

@@ -1,5 +1,6 @@
 -- The first clash of a list of keys, from the least clash of its records.
-use Rattle.std.proofs.Common.{◌≡◌, ℕ, zero, suc, ◌+◌, ◌<◌, ◌≤◌, true, false, List, [], ◌∷◌, length, get_or, Option, Some, None, IfSome}
+use Rattle.std.proofs.Common.{◌≡◌, ℕ, zero, suc, ◌+◌, ◌<◌, ◌≤◌, true, false}
+use Rattle.std.proofs.Common.{List, [], ◌∷◌, length, get_or, Option, Some, None, IfSome}
 use Rattle.std.proofs.Common.{refl, sym, ap, ◌∙◌, subst, arith}
 use Rattle.std.specs.Prelude.{◌↔◌, ◌==◌, IsNone}
 use Rattle.std.proofs.lemmas.Bool.{and_parts, eqb-true, false_from_ne_true, and_from, eq-eqb}
@@ -85,7 +86,8 @@ first_clash_of_least keys seed i j least =
     }
 
 -- where the pairs differ no two keys are twins
-no_twins : (keys : List (List ℕ)) (seed : ℕ) → HasDistinctPairs (records_of keys seed) → (x y : ℕ) → x < y → y < length keys → is_twin keys seed y x ≡ false
+no_twins : (keys : List (List ℕ)) (seed : ℕ) → HasDistinctPairs (records_of keys seed) → (x y : ℕ) →
+    x < y → y < length keys → is_twin keys seed y x ≡ false
 no_twins keys seed distinct x y before within =
     false_from_ne_true (is_twin keys seed y x)
     (λ twins. distinct x y (record { a = 0; b = 0; ordinal = 0 }) before (omega (arith, length-records_of keys seed))
@@ -100,7 +102,8 @@ clash_of_records keys seed (Some c) none least =
 
 -- the same of a list that holds those records
 pub clash_of_seen : (keys : List (List ℕ)) (seed : ℕ) (seen : List Record) (answer : Option (ℕ × ℕ)) → seen ≡ records_of keys seed →
-    (IsNone answer ↔ HasDistinctPairs seen) → (HasDistinctOrdinals seen → IfSome answer (λ c. IsLeastClash seen c.0 c.1)) → answer ≡ clash_of keys seed
+    (IsNone answer ↔ HasDistinctPairs seen) → (HasDistinctOrdinals seen → IfSome answer (λ c. IsLeastClash seen c.0 c.1)) →
+    answer ≡ clash_of keys seed
 clash_of_seen keys seed seen answer are none least =
     clash_of_records keys seed answer
     (subst (λ (rs : List Record). IsNone answer ↔ HasDistinctPairs rs) are none)

@@ -1,6 +1,8 @@
 mod Attempts
 mod Clashes
+mod PieceLaws
 mod Endings
+mod Gathering
 mod Grouping
 mod Lookups
 mod Marking

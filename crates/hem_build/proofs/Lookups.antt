@@ -34,15 +34,18 @@ value_there x starts key a b q part of =
     ∙ ap (λ s. option_map (λ v. s + v) (part_value x.shape.map x.seed part a b)) (sym (of.held.begin.each q of.within))
 
 -- it has a value in its partition
-pub value_some : (x : IndexData) (starts key : List ℕ) (a b q start value : ℕ) (part : PartData) (found : Option ℕ) → IsPartOf x starts key a b q part →
-    start ≡ slice_index_or starts q start → found ≡ part_value x.shape.map x.seed part a b → found ≡ Some value → Some (start + value) ≡ value_of x key
+pub value_some : (x : IndexData) (starts key : List ℕ) (a b q start value : ℕ) (part : PartData) (found : Option ℕ) →
+    IsPartOf x starts key a b q part →
+    start ≡ slice_index_or starts q start → found ≡ part_value x.shape.map x.seed part a b →
+    found ≡ Some value → Some (start + value) ≡ value_of x key
 value_some x starts key a b q start value part found of begin is some =
     let same : start ≡ slice_index starts q = begin ∙ get_or_default starts q start 0 (omega (arith, of.within, of.held.begin.count)) in
     ap (λ s. Some (s + value)) same
     ∙ sym (value_there x starts key a b q part of ∙ ap (option_map (λ v. slice_index starts q + v)) (sym is ∙ some))
 
 -- it has none
-pub value_none : (x : IndexData) (starts key : List ℕ) (a b q : ℕ) (part : PartData) (found : Option ℕ) → IsPartOf x starts key a b q part →
+pub value_none : (x : IndexData) (starts key : List ℕ) (a b q : ℕ) (part : PartData) (found : Option ℕ) →
+    IsPartOf x starts key a b q part →
     found ≡ part_value x.shape.map x.seed part a b → found ≡ None → None ≡ value_of x key
 value_none x starts key a b q part found of is none =
     sym (value_there x starts key a b q part of ∙ ap (option_map (λ v. slice_index starts q + v)) (sym is ∙ none))

@@ -1,5 +1,6 @@
 -- The mark of a list of keys, record by record.
-use Rattle.std.proofs.Common.{◌≡◌, ℕ, zero, suc, ◌+◌, ◌<◌, ◌≤◌, List, [], ◌∷◌, length, take, drop, get_or, refl, sym, ap, ◌∙◌, arith}
+use Rattle.std.proofs.Common.{◌≡◌, ℕ, zero, suc, ◌+◌, ◌<◌, ◌≤◌, List, [], ◌∷◌, length, take, drop, get_or}
+use Rattle.std.proofs.Common.{refl, sym, ap, ◌∙◌, arith}
 use Rattle.std.specs.Prelude.{◌%◌, ◌^◌, sum_by, bit_xor}
 use Rattle.std.specs.Int.Bits.{xor_assoc, xor_zero_r}
 use Rattle.std.proofs.lemmas.List.{take_all, drop_all}
@@ -17,7 +18,8 @@ pub record IsMarking (records : List Record) (i sum xor : ℕ) : Type 0 where
   pub xor_is : xor_by records ≡ bit_xor xor (xor_by (drop i records))
 
 -- of one record more
-pub marking_more : (records : List Record) (i sum xor : ℕ) (r : Record) → i < length records → get_or records i r ≡ r → IsMarking records i sum xor →
+pub marking_more : (records : List Record) (i sum xor : ℕ) (r : Record) → i < length records → get_or records i r ≡ r →
+    IsMarking records i sum xor →
     IsMarking records (i + 1) ((sum + r.a) % 2 ^ 64) (bit_xor xor r.b)
 marking_more records i sum xor r within at so_far =
     let more : sum_by (λ (r : Record). r.a) (take (i + 1) records) ≡ sum_by (λ (r : Record). r.a) (take i records) + (get_or records i r).a =

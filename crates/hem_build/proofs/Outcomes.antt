@@ -37,7 +37,8 @@ step_at rules keys causes seeds place seed a at is =
     ∙ ap (after_attempt rules keys seed (λ cause. outcome_from rules keys (causes ++ cause ∷ []) (drop (place + 1) seeds))) (sym is)
 
 -- an attempt was complete
-pub built_here : (rules : Rules) (keys : List (List ℕ)) (causes : List Cause) (seeds : List ℕ) (place seed n : ℕ) (parts : List PartData) (mark : KeyMarkData) →
+pub built_here : (rules : Rules) (keys : List (List ℕ)) (causes : List Cause) (seeds : List ℕ) (place seed n : ℕ)
+    (parts : List PartData) (mark : KeyMarkData) →
     IsAtSeed rules keys causes seeds place seed → n ≡ length keys → mark ≡ mark_of keys seed → complete parts ≡ attempt_of rules keys seed →
     (let x : IndexData = record { seed = seed; n = n; shape = rules.shape; parts = parts; mark = Some mark } in built x)
     ≡ outcome_from rules keys [] seeds

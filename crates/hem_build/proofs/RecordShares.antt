@@ -1,5 +1,6 @@
 -- The records of a list of keys, share by share.
-use Rattle.std.proofs.Common.{◌≡◌, ℕ, zero, suc, ◌+◌, ◌<◌, ◌≤◌, List, [], ◌∷◌, length, get_or, set, refl, sym, ap, ◌∙◌, arith, ⊎_elim}
+use Rattle.std.proofs.Common.{◌≡◌, ℕ, zero, suc, ◌+◌, ◌<◌, ◌≤◌, List, [], ◌∷◌, length, get_or, set}
+use Rattle.std.proofs.Common.{refl, sym, ap, ◌∙◌, arith, ⊎_elim}
 use Rattle.std.specs.Prelude.{slice_index_or, slice_get, Some}
 use Rattle.std.proofs.lemmas.Bool.{cases_eq}
 use Rattle.std.proofs.lemmas.List.{length-set, get_or-set_same, get_or-set_other, ext_get_or}
@@ -22,7 +23,8 @@ pub record IsHashing (keys : List (List ℕ)) (seed start i : ℕ) (before now :
   pub each : (k : ℕ) (d : Record) → k < i → slice_index_or now k d ≡ record_at_place (key_at keys (start + k)) seed (start + k)
 
 -- one place more has its record
-pub hashing_more : (keys : List (List ℕ)) (seed start i place a b : ℕ) (before now : List Record) (key : List ℕ) → IsHashing keys seed start i before now →
+pub hashing_more : (keys : List (List ℕ)) (seed start i place a b : ℕ) (before now : List Record) (key : List ℕ) →
+    IsHashing keys seed start i before now →
     i < length before → place ≡ start + i → slice_get keys place ≡ Some key → a ≡ first_hash key seed → b ≡ second_hash key seed →
     IsHashing keys seed start (i + 1) before (set now i (record { a = a; b = b; ordinal = place }))
 hashing_more keys seed start i place a b before now key so_far within at is first second =

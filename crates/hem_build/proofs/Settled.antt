@@ -24,7 +24,8 @@ AreRules-rules_of s = record {
 }
 
 -- the index of a complete attempt is valid
-pub valid_attempt : (rules : Rules) (keys : List (List ℕ)) (seed n : ℕ) (parts : List PartData) (mark : KeyMarkData) → AreRules rules → seed < 2 ^ 64 →
+pub valid_attempt : (rules : Rules) (keys : List (List ℕ)) (seed n : ℕ) (parts : List PartData) (mark : KeyMarkData) →
+    AreRules rules → seed < 2 ^ 64 →
     1 ≤ length keys → length keys ≤ MAX_KEYS → n ≡ length keys → mark ≡ mark_of keys seed → complete parts ≡ attempt_of rules keys seed →
     IsValidIndex (record { seed = seed; n = n; shape = rules.shape; parts = parts; mark = Some mark })
 valid_attempt rules keys seed n parts mark ranges fits some few count marked ends =

@@ -1,5 +1,6 @@
 -- Where the partitions of an index begin.
-use Rattle.std.proofs.Common.{◌≡◌, ℕ, zero, suc, ◌+◌, ◌<◌, ◌≤◌, List, [], ◌∷◌, ◌++◌, length, take, get_or, refl, sym, ap, ◌∙◌, arith, ⊎_elim}
+use Rattle.std.proofs.Common.{◌≡◌, ℕ, zero, suc, ◌+◌, ◌<◌, ◌≤◌, List, [], ◌∷◌, ◌++◌, length, take, get_or}
+use Rattle.std.proofs.Common.{refl, sym, ap, ◌∙◌, arith, ⊎_elim}
 use Rattle.std.specs.Prelude.{slice_index, slice_index_or}
 use Rattle.std.proofs.lemmas.Bool.{cases_lt}
 use Rattle.std.proofs.lemmas.List.{length-append, get_or_append_left, get_or-append-add}
@@ -18,7 +19,8 @@ pub record AreStarting (parts : List PartData) (i total : ℕ) (starts : List �
 pub starting_more : (parts : List PartData) (i total more : ℕ) (starts : List ℕ) (part : PartData) → i < length parts → get_or parts i part ≡ part →
     more ≡ total + part.n → AreStarting parts i total starts → AreStarting parts (i + 1) more (starts ++ total ∷ [])
 starting_more parts i total more starts part within at is so_far =
-    let next : key_count (take (i + 1) parts) ≡ key_count (take i parts) + (get_or parts i part).n = sum_by_more (λ (p : PartData). p.n) parts i part within in
+    let next : key_count (take (i + 1) parts) ≡ key_count (take i parts) + (get_or parts i part).n =
+    sum_by_more (λ (p : PartData). p.n) parts i part within in
     let here : (get_or parts i part).n ≡ part.n = ap (λ (p : PartData). p.n) at in
     record {
       count = omega (arith, length-append starts (total ∷ []), so_far.count);
@@ -35,5 +37,6 @@ starting_more parts i total more starts part within at is so_far =
     }
 
 -- all have their starts
-pub started_all : (parts : List PartData) (i total : ℕ) (starts : List ℕ) → i ≡ length parts → AreStarting parts i total starts → AreStarts parts starts
+pub started_all : (parts : List PartData) (i total : ℕ) (starts : List ℕ) → i ≡ length parts →
+    AreStarting parts i total starts → AreStarts parts starts
 started_all parts i total starts all so_far = record { count = so_far.count ∙ all; each = λ q within. so_far.each q (omega arith) }

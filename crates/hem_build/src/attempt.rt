@@ -9,11 +9,10 @@ ghost use Rattle.hem_build.specs.Answers.{attempt_data, HasMark};
 ghost use Rattle.hem_build.specs.Rules.{rules_of};
 
 use crate::clash::first_clash;
+use crate::cutting::cut_keys;
 use crate::groups::{StuckPart, build_partitions};
-use crate::hashing::records_of_keys;
-use crate::mark::mark_of_records;
 use crate::workers::worker_count;
-use bucket_map::{NoMemory, cut_records};
+use bucket_map::NoMemory;
 use build_outcome::KeyMark;
 use part_function::Part;
 use pth_outside::KeyList;
@@ -80,10 +79,9 @@ fn parts_of_keys<R: Threads + Sync>(
         parts_of (rules_of (settings_data settings.now)) keys.now seed
         ≡ Err (stuck.part, stuck.bucket))) }
 {
-    let records = records_of_keys(rt, alloc, keys, seed, worker_count(settings.how))?;
-    let mark = mark_of_records(&records);
-    let partitions = cut_records(alloc, records, settings.parts)?;
-    match build_partitions(rt, alloc, &partitions, keys.len(), seed, settings)? {
+    let all = cut_keys(rt, alloc, keys, seed, settings.parts, settings.how)?;
+    let mark = all.mark;
+    match build_partitions(rt, alloc, &all.pieces, keys.len(), seed, settings)? {
         Ok(parts) => Ok(Ok(MarkedParts { parts, mark })),
         Err(stuck) => Ok(Err(stuck)),
     }

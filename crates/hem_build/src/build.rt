@@ -47,7 +47,8 @@ pub fn build_keys<R: Threads + Sync>(
 
     // Keys with a repeat are never built, and pairwise different keys are never refused for one.
     ensures distinct { IfOk result (λ index. AreDistinctKeys keys.now) }
-    ensures repeat { (i j : ℕ) → IsErrOf result (Refusal.RepeatedKey i j) → IsRepeat keys.now i j }
+    ensures repeat { (i j : ℕ) → IsErrOf result (Refusal.RepeatedKey i j) →
+        IsRepeat keys.now i j }
 {
     match try_seeds(rt, alloc, keys, settings) {
         Ok(answer) => answer,

@@ -1,19 +1,22 @@
 // The partitions of an attempt, built in groups of neighbours at the same time.
-ghost use Rattle.std.specs.Prelude.{◌≡◌, ◌+◌, ◌-◌, ◌≤◌, length, slice_index, IfOk};
+ghost use Rattle.std.specs.Prelude.{◌≡◌, ◌+◌, ◌-◌, ◌<◌, ◌≤◌, [], length, slice_index, slice_index_or, IfOk};
 ghost use Rattle.std.specs.Thread.{IsSync};
-ghost use Rattle.pthash.specs.declared.TheConstants.{MAX_PARTITIONS};
+ghost use Rattle.pthash.specs.declared.TheConstants.{MAX_KEYS, MAX_PARTITIONS};
 ghost use Rattle.settings.specs.Settings.{settings_data};
-ghost use Rattle.build_outcome.specs.Attempt.{parts_from};
+ghost use Rattle.settings.specs.Workers.{workers_of};
+ghost use Rattle.settings.specs.declared.settings.TheConstants.{MAX_WORKERS};
+ghost use Rattle.build_outcome.specs.Attempt.{part_of, parts_from};
 ghost use Rattle.build_outcome.specs.Ranges.{parts_between};
-ghost use Rattle.hem_build.specs.Answers.{group_data, AreGroupAnswers};
-ghost use Rattle.hem_build.specs.Rules.{rules_of};
+ghost use Rattle.hem_build.specs.Answers.{part_data, group_data, AreGroupAnswers};
+ghost use Rattle.hem_build.specs.Rules.{rules_of, one_rule};
 ghost use Rattle.hem_build.specs.declared.workers.TheConstants.{MOST_GROUPS};
 ghost use Rattle.hem_build.specs.Starts.{AreGroupStarts, IsGroupOf, FewKeys};
 
+use crate::pieces::Pieces;
 use crate::workers::{MOST_GROUPS, group_count, how_in_group};
-use bucket_map::{NoMemory, Partitions};
+use bucket_map::{NoMemory, Record};
 use part_function::{Part, build_part_with};
-use pilot_search::Scratch;
+use pilot_search::{Scratch, Stuck};
 use settings::{How, Settings};
 use std::alloc::{AllocError, Global};
 use std::thread;
@@ -30,7 +33,7 @@ pub(crate) struct StuckPart {
 pub(crate) fn build_partitions<R: Threads + Sync>(
     rt: &R,
     alloc: Global,
-    partitions: &Partitions,
+    partitions: &Pieces,
     n: u64,
     seed: u64,
     settings: &Settings,
@@ -43,66 +46,64 @@ pub(crate) fn build_partitions<R: Threads + Sync>(
 {
     let groups = group_count(settings.how, partitions.len());
     let how = how_in_group(settings.how, groups);
-    let bounds = group_starts(alloc, partitions, n, groups)?;
+    let counts = partitions.counts(alloc)?;
+    let bounds = group_starts(alloc, &counts, n, groups)?;
     let starts = bounds.as_slice();
     let answers = thread::map_indices(
         rt,
         alloc,
         groups as usize,
         &|group: usize| -> Result<Result<Vec<Part>, StuckPart>, NoMemory>
-            requires { IsSync R.row × IsGroupOf partitions.now starts.now group settings.now.how how }
+            requires { IsSync R.row
+                × IsGroupOf partitions.now starts.now group settings.now.how how }
             ensures { IfOk result (λ answer. group_data answer
-                ≡ parts_between (rules_of (settings_data settings.entry.now)) seed partitions.entry.now
-                (slice_index starts.entry.now group) (slice_index starts.entry.now (group + 1))) }
+                ≡ parts_between (rules_of (settings_data settings.entry.now)) seed
+                partitions.entry.now (slice_index starts.entry.now group)
+                (slice_index starts.entry.now (group + 1))) }
         { build_group(rt, alloc, partitions, starts, group, seed, settings, how) },
     )?;
     join_groups(alloc, partitions, starts, seed, settings, answers)
 }
 
 // Where groups of neighbours with about as many records each begin; one more start is the end.
-fn group_starts(
-    alloc: Global,
-    partitions: &Partitions,
-    n: u64,
-    groups: u64,
-) -> Result<Vec<u64>, AllocError>
+fn group_starts(alloc: Global, counts: &[u64], n: u64, groups: u64) -> Result<Vec<u64>, AllocError>
     requires some { 1 ≤ groups }
     requires most { groups ≤ MOST_GROUPS }
-    ensures { IfOk result (λ v. AreGroupStarts groups (length partitions.now) v.items) }
+    ensures { IfOk result (λ v. AreGroupStarts groups (length counts.now) v.items) }
 {
     let wanted = n / groups;
     let mut starts = Vec::with_capacity(alloc, groups as usize + 1)?;
     let mut start = 0;
     for _ in 0..groups {
         starts.push(start)?;
-        start = group_end(partitions, start, wanted);
+        start = group_end(counts, start, wanted);
     }
-    starts.push(partitions.len())?;
+    starts.push(counts.len() as u64)?;
     Ok(starts)
 }
 
 // Where a group ends that has about so many records. A partition belongs to it if less than half would be too much.
-fn group_end(partitions: &Partitions, start: u64, wanted: u64) -> u64
-    requires { start ≤ length partitions.now }
+fn group_end(counts: &[u64], start: u64, wanted: u64) -> u64
+    requires { start ≤ length counts.now }
     ensures low { start ≤ result }
-    ensures high { result ≤ length partitions.now }
+    ensures high { result ≤ length counts.now }
 {
     let mut counted: u64 = 0;
-    for number in start..partitions.len() {
-        let more = partitions.records(number).len() as u64;
+    for number in start..counts.len() as u64 {
+        let more = counts[number as usize];
         if counted.saturating_add(more / 2) > wanted {
             return number;
         }
         counted = counted.saturating_add(more);
     }
-    partitions.len()
+    counts.len() as u64
 }
 
 // Builds the partitions of a group one after another, up to the first that is stuck.
 fn build_group<R: Threads + Sync>(
     rt: &R,
     alloc: Global,
-    partitions: &Partitions,
+    partitions: &Pieces,
     starts: &[u64],
     group: usize,
     seed: u64,
@@ -116,17 +117,18 @@ fn build_group<R: Threads + Sync>(
 {
     let mut built = Vec::new(alloc);
     let mut scratch = Scratch::with(alloc, 0)?;
+    let mut records = Vec::new(alloc);
     for number in starts[group]..starts[group + 1] {
-        let records = partitions.records(number);
-        match build_part_with(
+        match build_one(
             rt,
             alloc,
-            records,
-            settings.shape,
+            partitions,
+            number,
             seed,
-            settings.limit,
+            settings,
             how,
             &mut scratch,
+            &mut records,
         )? {
             Ok(part) => built.push(part)?,
             Err(stuck) => {
@@ -140,10 +142,75 @@ fn build_group<R: Threads + Sync>(
     Ok(Ok(built))
 }
 
+// Builds a partition, whose records are gathered in memory that is lent where they stand in more than one piece.
+fn build_one<R: Threads + Sync>(
+    rt: &R,
+    alloc: Global,
+    partitions: &Pieces,
+    number: u64,
+    seed: u64,
+    settings: &Settings,
+    how: How,
+    scratch: &mut Scratch,
+    room: &mut Vec<Record>,
+) -> Result<Result<Part, Stuck>, NoMemory>
+    requires within { number < length partitions.now }
+    requires few { length (slice_index_or partitions.now number []) ≤ MAX_KEYS }
+    requires some_worker { 1 ≤ workers_of how }
+    requires few_workers { workers_of how ≤ MAX_WORKERS }
+    ensures { IfOk result (λ answer. part_data answer
+        ≡ part_of (one_rule (settings_data settings.now)) seed
+        (slice_index_or partitions.now number [])) }
+{
+    match partitions.only() {
+        Some(only) => build_records(
+            rt,
+            alloc,
+            only.records(number),
+            seed,
+            settings,
+            how,
+            scratch,
+        ),
+        None => {
+            partitions.gather(number, room)?;
+            build_records(rt, alloc, room, seed, settings, how, scratch)
+        }
+    }
+}
+
+// Builds the partition of some records.
+fn build_records<R: Threads + Sync>(
+    rt: &R,
+    alloc: Global,
+    records: &[Record],
+    seed: u64,
+    settings: &Settings,
+    how: How,
+    scratch: &mut Scratch,
+) -> Result<Result<Part, Stuck>, NoMemory>
+    requires few { length records.now ≤ MAX_KEYS }
+    requires some_worker { 1 ≤ workers_of how }
+    requires few_workers { workers_of how ≤ MAX_WORKERS }
+    ensures { IfOk result (λ answer. part_data answer
+        ≡ part_of (one_rule (settings_data settings.now)) seed records.now) }
+{
+    build_part_with(
+        rt,
+        alloc,
+        records,
+        settings.shape,
+        seed,
+        settings.limit,
+        how,
+        scratch,
+    )
+}
+
 // The partitions of all groups, or the first that is stuck.
 fn join_groups(
     alloc: Global,
-    partitions: &Partitions,
+    partitions: &Pieces,
     starts: &[u64],
     seed: u64,
     settings: &Settings,

@@ -29,7 +29,7 @@ pub(crate) fn records_of_keys<R: Threads + Sync>(
 }
 
 // As many records to write over.
-fn blank_records(alloc: Global, n: usize) -> Result<Vec<Record>, AllocError>
+pub(crate) fn blank_records(alloc: Global, n: usize) -> Result<Vec<Record>, AllocError>
     ensures { IfOk result (λ v. length v.items ≡ n) }
 {
     let blank = Record {
@@ -69,7 +69,7 @@ fn hash_all<R: Threads + Sync>(
 }
 
 // Writes the records of the keys from a place on.
-fn hash_share(keys: &KeyList, seed: u64, start: u64, share: &mut [Record])
+pub(crate) fn hash_share(keys: &KeyList, seed: u64, start: u64, share: &mut [Record])
     requires { IsShareOf keys.now start share.old }
     ensures { AreRecordsFrom keys.now seed start share.old share.new }
 {

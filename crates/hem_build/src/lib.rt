@@ -5,9 +5,11 @@ mod attempt;
 mod build;
 mod built;
 mod clash;
+mod cutting;
 mod groups;
 mod hashing;
 mod mark;
+mod pieces;
 mod refusal;
 #[cfg(test)]
 mod tests;

@@ -1,6 +1,6 @@
 // The mark of a list of keys, from its records.
 ghost use Rattle.std.specs.Prelude.{◌≡◌};
-ghost use Rattle.hem_build.specs.Marks.{mark_by};
+ghost use Rattle.hem_build.specs.Marks.{mark_by, added_marks};
 
 use bucket_map::Record;
 use build_outcome::KeyMark;
@@ -16,4 +16,14 @@ pub(crate) fn mark_of_records(records: &[Record]) -> KeyMark
         xor ^= record.b;
     }
     KeyMark { sum, xor }
+}
+
+// The mark of two lists together.
+pub(crate) fn both_marks(first: KeyMark, second: KeyMark) -> KeyMark
+    ensures { result ≡ added_marks first second }
+{
+    KeyMark {
+        sum: first.sum.wrapping_add(second.sum),
+        xor: first.xor ^ second.xor,
+    }
 }

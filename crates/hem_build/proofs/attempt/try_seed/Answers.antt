@@ -15,13 +15,15 @@ returns-in-Ok-clause-attempt g c =
 pub returns-in-Some-clause-attempt : goal.returns-in-Some-clause-attempt
 returns-in-Some-clause-attempt g c =
     let rules = rules_of (settings_data c.args.settings.now) in
-    let ends : parts_of rules c.args.keys.now c.args.seed ≡ Err (c.in-Err.stuck.part, c.in-Err.stuck.bucket) = rw c.in-Err.is at c.in_ok-parts.ensures.stuck in
+    let ends : parts_of rules c.args.keys.now c.args.seed ≡ Err (c.in-Err.stuck.part, c.in-Err.stuck.bucket) =
+    rw c.in-Err.is at c.in_ok-parts.ensures.stuck in
     clashed_attempt rules c.args.keys.now c.args.seed c.in-Err.stuck.part c.in-Err.stuck.bucket c.in-Some.first c.in-Some.second
     c.in_ok-first-in-Err.field-0 ends c.in_ok-first-in-Err.ensures c.in-Some.is
 
 pub returns-in-None-clause-attempt : goal.returns-in-None-clause-attempt
 returns-in-None-clause-attempt g c =
     let rules = rules_of (settings_data c.args.settings.now) in
-    let ends : parts_of rules c.args.keys.now c.args.seed ≡ Err (c.in-Err.stuck.part, c.in-Err.stuck.bucket) = rw c.in-Err.is at c.in_ok-parts.ensures.stuck in
+    let ends : parts_of rules c.args.keys.now c.args.seed ≡ Err (c.in-Err.stuck.part, c.in-Err.stuck.bucket) =
+    rw c.in-Err.is at c.in_ok-parts.ensures.stuck in
     stuck_attempt rules c.args.keys.now c.args.seed c.in-Err.stuck.part c.in-Err.stuck.bucket
     c.in_ok-first-in-Err.field-0 ends c.in_ok-first-in-Err.ensures c.in-None.is

@@ -1,8 +1,6 @@
-use Rattle.std.proofs.Common.{◌≡◌, ◌+◌, ◌<◌, ◌≤◌, length, sym, ap, ◌∙◌, arith}
+use Rattle.std.proofs.Common.{◌≡◌, ◌+◌, ◌<◌, ◌≤◌, length, sym, arith}
 use Rattle.std.specs.Prelude.{slice_index}
 use Rattle.settings.specs.Settings.{settings_data}
-use Rattle.build_outcome.specs.Attempt.{part_of}
-use Rattle.build_outcome.specs.OnePart.{one_part}
 use Rattle.hem_build.specs.Rules.{rules_of}
 use Rattle.hem_build.proofs.Grouping.{stuck_there, built_more, IsBuiltTo}
 use Rattle.hem_build.proofs.groups.build_group.Goals as goal
@@ -14,7 +12,7 @@ returns-in-Err g c =
     let within : to ≤ length c.args.partitions.now = c.requires.bounds.within (c.args.group + 1) (omega (arith, c.requires.within)) in
     stuck_there rules c.args.seed (slice_index c.args.starts.now c.args.group) to c.loop-number.number c.in-Err.stuck.bucket c.args.partitions.now
     c.loop-number.built.items (omega arith) within
-    (ap (part_of (one_part rules.shape rules.limit) c.args.seed) (sym c.records-records.ensures) ∙ (rw c.in-Err.is at c.in_ok-part.ensures.stuck).no_part)
+    (sym (rw c.in-Err.is at c.in_ok-part.ensures))
     c.loop-number.invariant
 
 pub loop-number-preserved : goal.loop-number-preserved
@@ -25,5 +23,5 @@ loop-number-preserved g c =
     let within : to ≤ length c.args.partitions.now = c.requires.bounds.within (c.args.group + 1) (omega (arith, c.requires.within)) in
     rw c.in_ok-push-in-Ok.ensures.items
     (built_more rules c.args.seed from to c.loop-number.number c.args.partitions.now c.loop-number.built.items c.in-Ok.part (omega arith) within
-    (ap (part_of (one_part rules.shape rules.limit) c.args.seed) (sym c.records-records.ensures) ∙ (rw c.in-Ok.is at c.in_ok-part.ensures.part))
+    (sym (rw c.in-Ok.is at c.in_ok-part.ensures))
     c.loop-number.invariant)
