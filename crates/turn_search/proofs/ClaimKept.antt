@@ -1,5 +1,6 @@
 -- A new table, a split and a claim keep the rule.
-use Rattle.std.proofs.Common.{◌≡◌, ◌≢◌, ℕ, ◌+◌, ◌/◌, ◌%◌, ◌^◌, ◌<◌, ◌≤◌, Bool, true, false, ◌||◌, List, [], ◌∷◌, ◌++◌, length, replicate, refl}
+use Rattle.std.proofs.Common.{◌≡◌, ◌≢◌, ℕ, ◌+◌, ◌/◌, ◌%◌, ◌^◌, ◌<◌, ◌≤◌, Bool, true, false, ◌||◌, List}
+use Rattle.std.proofs.Common.{[], ◌∷◌, ◌++◌, length, replicate, refl}
 use Rattle.std.proofs.Common.{sym, ap, ◌∙◌, subst, ⊎_elim, arith, eqb}
 use Rattle.std.specs.Prelude.{slice_index, slice_set, Option, Some, None, cond, bit_or, zero, suc}
 use Rattle.std.specs.Int.{bit_at}
@@ -156,7 +157,8 @@ module _ (plan : SearchPlan) (words : List ℕ) (views : List View) (r : Kept pl
       (cases_lt rank view.place)
 
   -- what a view knows that has gone on by a place, with this claim and no other look
-  knows_on : (next : View) → next.plan ≡ view.plan → next.place ≡ view.place + 1 → next.holds ≡ false → next.bits ≡ view.bits → next.wrote ≡ view.wrote →
+  knows_on : (next : View) → next.plan ≡ view.plan → next.place ≡ view.place + 1 → next.holds ≡ false → next.bits ≡ view.bits →
+      next.wrote ≡ view.wrote →
       next.last ≡ view.last → ((p : ℕ) → p < plan.size → found_taken next.looks p ≡ true → is_taken plan words p ≡ true) →
       ((rank : ℕ) → next.claim ≡ Some rank → (turn_in words ≤ rank) × (rank < ranks_of plan) × (is_claimed later rank ≡ true)) →
       Knows plan later r.state r.bits next
@@ -216,7 +218,8 @@ module _ (plan : SearchPlan) (words : List ℕ) (views : List View) (r : Kept pl
       both_ways (is_claimed words view.place) clear (ap (is_claimed words) same ∙ (r.each j other there).claim_set rank theirs))
 
   -- both together
-  claim_moves : (found : Bool) → is_claimed words view.place ≡ found → Moves plan words views r id later r.bits (cond found (past_place view) (with_claim view))
+  claim_moves : (found : Bool) → is_claimed words view.place ≡ found →
+      Moves plan words views r id later r.bits (cond found (past_place view) (with_claim view))
   claim_moves true is = found_set
   claim_moves false is = found_clear is
 

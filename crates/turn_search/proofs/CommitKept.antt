@@ -1,5 +1,6 @@
 -- A bit more, and the store of the pilot, keep the rule.
-use Rattle.std.proofs.Common.{◌≡◌, ◌≢◌, ℕ, ◌+◌, ◌/◌, ◌%◌, ◌^◌, ◌<◌, ◌≤◌, Bool, true, false, ◌||◌, List, [], ◌∷◌, take, refl, sym, ap}
+use Rattle.std.proofs.Common.{◌≡◌, ◌≢◌, ℕ, ◌+◌, ◌/◌, ◌%◌, ◌^◌, ◌<◌, ◌≤◌, Bool, true, false, ◌||◌, List}
+use Rattle.std.proofs.Common.{[], ◌∷◌, take, refl, sym, ap}
 use Rattle.std.proofs.Common.{◌∙◌, subst, ⊎_elim, arith}
 use Rattle.std.specs.Prelude.{slice_index, slice_set, Some, None, bit_or, nat_eq}
 use Rattle.std.specs.FinSet.{contains}
@@ -68,7 +69,8 @@ module _ (plan : SearchPlan) (room : 1 ≤ plan.size) (words : List ℕ) (views 
       (rw turn_is (shown_is_pilot view r.state rank k (subst (λ (q : SearchPlan). 1 ≤ q.size) (sym mine.same_plan) room) holder.sees shows))
 
   -- the others keep what they know, and none of them holds
-  others : (later : List ℕ) (bits : ℕ) (j : ℕ) (other : View) → j ≢ id → Stands views j other → other.holds ≡ true → Holder plan later r.state bits other
+  others : (later : List ℕ) (bits : ℕ) (j : ℕ) (other : View) → j ≢ id → Stands views j other → other.holds ≡ true →
+      Holder plan later r.state bits other
   others later bits j other apart there held =
       absurd (both_ways other.holds (others_idle plan words views r id view here holder.claims_turn j other apart there) held)
 
@@ -89,8 +91,10 @@ module _ (plan : SearchPlan) (room : 1 ≤ plan.size) (words : List ℕ) (views 
   }
 
   -- what the view knows that only gained a bit or stored its pilot
-  knows_on : (next : View) (later : List ℕ) (bits : ℕ) → Grows plan words later → next.plan ≡ view.plan → next.place ≡ view.place → next.claim ≡ view.claim →
-      next.looks ≡ view.looks → next.last ≡ view.last → next.holds ≡ true → Holder plan later r.state bits next → Knows plan later r.state bits next
+  knows_on : (next : View) (later : List ℕ) (bits : ℕ) → Grows plan words later → next.plan ≡ view.plan → next.place ≡ view.place →
+      next.claim ≡ view.claim →
+      next.looks ≡ view.looks → next.last ≡ view.last → next.holds ≡ true → Holder plan later r.state bits next →
+      Knows plan later r.state bits next
   knows_on next later bits grows same place claim looks last held h = record {
     same_plan = same ∙ mine.same_plan;
     place_within = omega (arith, place, mine.place_within);
@@ -120,7 +124,8 @@ module _ (plan : SearchPlan) (room : 1 ≤ plan.size) (words : List ℕ) (views 
 
     -- the positions taken afterwards
     bits_are : (p : ℕ) → p < plan.size →
-        is_taken plan later p ≡ (contains r.state.taken p || is_among (front_of plan (turn_in words) (pilot_at plan r.state (turn_in words)) (view.bits + 1)) p)
+        is_taken plan later p ≡ (contains r.state.taken p
+        || is_among (front_of plan (turn_in words) (pilot_at plan r.state (turn_in words)) (view.bits + 1)) p)
     bits_are p below =
         let front : ℕ → Bool = λ n. is_among (take n (positions_at plan rank k)) p in
         let before : is_taken plan words p ≡ (contains r.state.taken p || front view.bits) =
@@ -211,7 +216,8 @@ bit_allowed plan slots id rank k mask me room shows left quiet is s r deep here 
     )
 
 -- kind 6
-pub store_allowed : (plan : SearchPlan) (slots id rank k : ℕ) (me : Me (Unit {0}) View) → 1 ≤ plan.size → Shows me.0 rank k → me.0.bits ≡ keys_at plan rank →
+pub store_allowed : (plan : SearchPlan) (slots id rank k : ℕ) (me : Me (Unit {0}) View) → 1 ≤ plan.size → Shows me.0 rank k →
+    me.0.bits ≡ keys_at plan rank →
     Allows (λ (s : State (Unit {0}) View). Kept plan s.words s.views) slots id me (pilots_from plan + rank) (λ _. k)
     (λ _. StoreTold (step slots (pilots_from plan + rank) k 0 maybe.none) me k)
 store_allowed plan slots id rank k me room shows full s r deep here fits =

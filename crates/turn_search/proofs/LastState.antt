@@ -43,7 +43,8 @@ module _ (plan : SearchPlan) (words : List ℕ) (views : List View) (kept : Kept
         same_pilots = ext_get_or 0 kept.state.pilots first_pilots (known ∙ sym length-first_pilots)
             (λ rank below.
             sym (kept.pilots rank (omega (arith, known)))
-            ∙ sym (get_or-take (turn_in words) (drop (pilots_from plan) words) rank 0 (omega (arith, known)) ∙ get_or-drop (pilots_from plan) words rank 0));
+            ∙ sym (get_or-take (turn_in words) (drop (pilots_from plan) words) rank 0 (omega (arith, known))
+            ∙ get_or-drop (pilots_from plan) words rank 0));
       }
 
   -- where the stop bit is set the search is stuck
@@ -53,7 +54,8 @@ module _ (plan : SearchPlan) (words : List ℕ) (views : List View) (kept : Kept
       (omega (arith, kept.stop_below stop))
 
 -- what is said of a closed table
-pub end_of : (table : TurnTableData) (key : SearchPlan) (words : List ℕ) (views : List View) (seat : ℕ) (view : View) (ended : Ended) → key ≡ table.plan →
+pub end_of : (table : TurnTableData) (key : SearchPlan) (words : List ℕ) (views : List View) (seat : ℕ) (view : View) (ended : Ended) →
+    key ≡ table.plan →
     Kept key words views → get_elem? views seat ≡ some view → ended.pilots.items ≡ take (turn_in words) (drop (pilots_from table.plan) words) →
     ended.stuck ≡ stuck_in (turn_word words) → turn_in words + ended.rest ≡ ranks_of table.plan → IsEndOf table view ended
 end_of table key words views seat view ended same kept there pilots stuck rest =

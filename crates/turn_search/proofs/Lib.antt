@@ -8,4 +8,5 @@ pub mod TurnKept
 pub mod Seats
 pub mod Looked
 pub mod LastState
+pub mod Waiting
 pub mod CallerLemmas

@@ -1,5 +1,6 @@
 -- A load of the turn word, and a load of a word of the positions' bits, keep the rule.
-use Rattle.std.proofs.Common.{◌≡◌, ℕ, ◌+◌, ◌-◌, ◌/◌, ◌%◌, ◌<◌, Bool, true, false, ◌&&◌, ◌||◌, List, [], ◌∷◌, ◌++◌, length, drop, refl, sym}
+use Rattle.std.proofs.Common.{◌≡◌, ℕ, ◌+◌, ◌-◌, ◌/◌, ◌%◌, ◌<◌, Bool, true, false, ◌&&◌, ◌||◌, List, [], ◌∷◌}
+use Rattle.std.proofs.Common.{◌++◌, length, drop, refl, sym}
 use Rattle.std.proofs.Common.{ap, ◌∙◌, subst, arith, eqb}
 use Rattle.std.specs.Prelude.{slice_index, slice_set, Option, Some, None, cond, nat_lt, not, ◌==◌}
 use Rattle.std.specs.Int.{bit_at}
@@ -54,7 +55,8 @@ module _ (plan : SearchPlan) (words : List ℕ) (views : List View) (r : Kept pl
   mine = r.each id view here
 
   -- the facts of a step that changes no word
-  looks_on : (next : View) → next.claim ≡ view.claim → (((i : ℕ) (other : View) → Stands (slice_set views id next) i other → other.holds ≡ false) →
+  looks_on : (next : View) → next.claim ≡ view.claim →
+      (((i : ℕ) (other : View) → Stands (slice_set views id next) i other → other.holds ≡ false) →
       r.bits ≡ 0) →
       Knows plan words r.state r.bits next → Moves plan words views r id words r.bits next
   looks_on next claim unheld knows = record {
@@ -68,7 +70,8 @@ module _ (plan : SearchPlan) (words : List ℕ) (views : List View) (r : Kept pl
   }
 
   -- where the view holds the turn or not as before, nobody holds afterwards only if nobody held before
-  none_holds : (next : View) → next.holds ≡ view.holds → ((i : ℕ) (other : View) → Stands (slice_set views id next) i other → other.holds ≡ false) → r.bits ≡ 0
+  none_holds : (next : View) → next.holds ≡ view.holds →
+      ((i : ℕ) (other : View) → Stands (slice_set views id next) i other → other.holds ≡ false) → r.bits ≡ 0
   none_holds next same all =
       let idle : view.holds ≡ false = sym same ∙ all id next (set_here views id next (stands_within views id view here)) in
       r.unheld (none_held views id view next here idle all)

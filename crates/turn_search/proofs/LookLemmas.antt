@@ -85,7 +85,8 @@ shown_is_pilot view state rank k room sees shows =
     least_below-found (fits_at view.plan (contains state.taken) rank) view.plan.limit k (shown_is_least view state rank k room sees shows)
 
 -- where each pilot is rejected, the bucket has none
-pub rejected_has_none : (view : View) (state : SearchState) (rank : ℕ) → 1 ≤ view.plan.size → SeesState view state → RejectsBelow view rank view.plan.limit →
+pub rejected_has_none : (view : View) (state : SearchState) (rank : ℕ) → 1 ≤ view.plan.size → SeesState view state →
+    RejectsBelow view rank view.plan.limit →
     pilot_at view.plan state rank ≡ None
 rejected_has_none view state rank room sees rejects =
     least_below-none (fits_at view.plan (contains state.taken) rank) view.plan.limit (rejected_fails view state rank view.plan.limit room sees rejects).fails

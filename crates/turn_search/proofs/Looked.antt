@@ -1,5 +1,6 @@
 -- What looks that come to a view leave of what it found, and add to it.
-use Rattle.std.proofs.Common.{◌≡◌, ℕ, ◌+◌, ◌/◌, ◌%◌, ◌<◌, ◌≤◌, Bool, true, false, ◌&&◌, ◌||◌, List, [], ◌∷◌, ◌++◌, length, take, drop, refl, sym, ap}
+use Rattle.std.proofs.Common.{◌≡◌, ℕ, ◌+◌, ◌/◌, ◌%◌, ◌<◌, ◌≤◌, Bool, true, false, ◌&&◌, ◌||◌, List, []}
+use Rattle.std.proofs.Common.{◌∷◌, ◌++◌, length, take, drop, refl, sym, ap}
 use Rattle.std.proofs.Common.{◌∙◌, subst, arith, ⊎_elim}
 use Rattle.std.specs.Prelude.{not, ◌==◌, slice_index, bit_xor, Some, Err, ◌↔◌}
 use Rattle.std.specs.Int.{bit_at}
@@ -65,18 +66,21 @@ taken_left looks more p found =
     list_any-append (λ (look : Look). look.word == p / 64 && bit_at look.value (p % 64) == 1) looks more
     ∙ or_left (found_taken looks p) (found_taken more p) found
 
+-- what looks found free was found so among more
 pub free_left : (looks more : List Look) (p : ℕ) → found_free looks p ≡ true → found_free (looks ++ more) p ≡ true
 free_left looks more p found =
     list_any-append (λ (look : Look). look.word == p / 64 && not (bit_at look.value (p % 64) == 1)) looks more
     ∙ or_left (found_free looks p) (found_free more p) found
 
+-- what the later looks found free was found so among all
 pub free_right : (looks more : List Look) (p : ℕ) → found_free more p ≡ true → found_free (looks ++ more) p ≡ true
 free_right looks more p found =
     list_any-append (λ (look : Look). look.word == p / 64 && not (bit_at look.value (p % 64) == 1)) looks more
     ∙ or_right (found_free looks p) (found_free more p) found
 
 -- positions of which all pass a test pass a weaker one
-all_weaker : (test weaker : ℕ → Bool) → ((p : ℕ) → test p ≡ true → weaker p ≡ true) → (ps : List ℕ) → list_all test ps ≡ true → list_all weaker ps ≡ true
+all_weaker : (test weaker : ℕ → Bool) → ((p : ℕ) → test p ≡ true → weaker p ≡ true) → (ps : List ℕ) → list_all test ps ≡ true →
+    list_all weaker ps ≡ true
 all_weaker test weaker implies [] all = refl
 all_weaker test weaker implies (p ∷ ps) all =
     let parts = and_parts (test p) (list_all test ps) all in
@@ -86,6 +90,7 @@ all_weaker test weaker implies (p ∷ ps) all =
 pub all_free_left : (looks more : List Look) (ps : List ℕ) → list_all (found_free looks) ps ≡ true → list_all (found_free (looks ++ more)) ps ≡ true
 all_free_left looks more ps all = all_weaker (found_free looks) (found_free (looks ++ more)) (free_left looks more) ps all
 
+-- positions that later looks all found free were so among all
 pub all_free_right : (looks more : List Look) (ps : List ℕ) → list_all (found_free more) ps ≡ true → list_all (found_free (looks ++ more)) ps ≡ true
 all_free_right looks more ps all = all_weaker (found_free more) (found_free (looks ++ more)) (free_right looks more) ps all
 

@@ -97,7 +97,8 @@ module _ (plan : SearchPlan) (views : List View) (id : ℕ) (view : View) where
       (at_set views id j view other there)
 
   -- no two claim one rank afterwards
-  pub alone_of : ((i j : ℕ) (one two : View) (rank : ℕ) → Stands views i one → Stands views j two → one.claim ≡ Some rank → two.claim ≡ Some rank → i ≡ j) →
+  pub alone_of : ((i j : ℕ) (one two : View) (rank : ℕ) → Stands views i one → Stands views j two →
+      one.claim ≡ Some rank → two.claim ≡ Some rank → i ≡ j) →
       ((j : ℕ) (other : View) (rank : ℕ) → j ≢ id → Stands views j other → other.claim ≡ Some rank → view.claim ≡ Some rank → ⊥) →
       (i j : ℕ) (one two : View) (rank : ℕ) → Stands (slice_set views id view) i one → Stands (slice_set views id view) j two →
       one.claim ≡ Some rank → two.claim ≡ Some rank → i ≡ j

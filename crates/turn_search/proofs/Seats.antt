@@ -57,7 +57,8 @@ module _ (plan key : SearchPlan) (words slots : ℕ) (pilots : List ℕ) (laid :
       )
 
   -- kind 5
-  pub may_set : (first rank k position mask : ℕ) → first ≡ bits_from plan → Shows me.0 rank k → me.0.bits < keys_at plan rank → me.0.wrote ≡ false →
+  pub may_set : (first rank k position mask : ℕ) → first ≡ bits_from plan → Shows me.0 rank k → me.0.bits < keys_at plan rank →
+      me.0.wrote ≡ false →
       position ≡ slice_index (positions_at plan rank k) me.0.bits → mask ≡ 2 ^ (position % 64) →
       (first + position / 64 < words) × Allows (Keeps key) slots id me (first + position / 64) (λ n. bit_or n mask)
       (BitTold (step slots (first + position / 64) mask 0 maybe.none) me)
@@ -126,12 +127,15 @@ seated_on me after place found seated none left told =
       no_slots = seated.no_slots;
       place_is = omega (arith, seated.place_is);
       place_within = omega arith;
-      claim_is = λ rank claims. let same : me.0.place ≡ rank = same_rank (with_claim me.0).claim me.0.place rank refl claims in omega (arith, seated.place_is);
+      claim_is = λ rank claims.
+          let same : me.0.place ≡ rank = same_rank (with_claim me.0).claim me.0.place rank refl claims in
+          omega (arith, seated.place_is);
       has_turn = λ held. absurd (unheld held);
     }
 
 -- a pass after a step that changed neither place nor claim
-pub seated_same : (me after : Me (Unit {0}) View) (place : ℕ) → IsSeated me place → after.1 ≡ me.1 → after.0.place ≡ me.0.place → after.0.plan ≡ me.0.plan →
+pub seated_same : (me after : Me (Unit {0}) View) (place : ℕ) → IsSeated me place → after.1 ≡ me.1 → after.0.place ≡ me.0.place →
+    after.0.plan ≡ me.0.plan →
     ((rank : ℕ) → after.0.claim ≡ Some rank → me.0.claim ≡ Some rank) → HasTurnIfHeld after.0 → IsSeated after place
 seated_same me after place seated slots at plan claims turn = record {
   no_slots = slots ∙ seated.no_slots;
@@ -153,7 +157,8 @@ turn_stays view after plan claim looks mark held turn now =
         reached = rw plan was.1.reached;
         sees = record {
           marked = rw (mark, looks) was.1.sees.marked;
-          taken = λ p below found. was.1.sees.taken p (subst (λ (q : SearchPlan). p < q.size) plan below) (subst (λ l. found_taken l p ≡ true) looks found);
+          taken = λ p below found. was.1.sees.taken p (subst (λ (q : SearchPlan). p < q.size) plan below)
+              (subst (λ l. found_taken l p ≡ true) looks found);
           free = λ p below found. was.1.sees.free p (subst (λ (q : SearchPlan). p < q.size) plan below)
               (subst (λ (x : ℕ × List Look). found_free (drop x.0 x.1) p ≡ true) (λ i. (mark i, looks i)) found);
         };
@@ -161,7 +166,8 @@ turn_stays view after plan claim looks mark held turn now =
     )
 
 -- a view gets the turn that it claims, where it doesn't hold it already
-pub came_turn : (view : View) (found rank : ℕ) → found < STOP → view.claim ≡ Some rank → turn_of found ≡ rank → (after_load view found).holds ≡ true
+pub came_turn : (view : View) (found rank : ℕ) → found < STOP → view.claim ≡ Some rank → turn_of found ≡ rank →
+    (after_load view found).holds ≡ true
 came_turn view found rank running claims turn =
     elim view.holds as (λ b. view.holds ≡ b → (after_load view found).holds ≡ true) [
       | true ↦ λ held. still (gets_turn view found) held

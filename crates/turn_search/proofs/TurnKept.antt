@@ -1,5 +1,6 @@
 -- Passing the turn on, and stopping, keep the rule.
-use Rattle.std.proofs.Common.{◌≡◌, ◌≢◌, ℕ, ◌+◌, ◌%◌, ◌<◌, ◌≤◌, true, false, ◌||◌, List, [], ◌∷◌, ◌++◌, length, take, refl, sym, ap, ◌∙◌, subst}
+use Rattle.std.proofs.Common.{◌≡◌, ◌≢◌, ℕ, ◌+◌, ◌%◌, ◌<◌, ◌≤◌, true, false, ◌||◌, List, [], ◌∷◌, ◌++◌}
+use Rattle.std.proofs.Common.{length, take, refl, sym, ap, ◌∙◌, subst}
 use Rattle.std.proofs.Common.{⊎_elim, arith, add-one}
 use Rattle.std.specs.Prelude.{slice_index, slice_set, Some, None, Ok, Err, ◌-◌, ◌^◌, bit_or}
 use Rattle.std.specs.FinSet.{contains}
@@ -60,7 +61,8 @@ module _ (plan : SearchPlan) (small : ranks_of plan < STOP) (words : List ℕ) (
   idle = others_idle plan words views r id view here holder.claims_turn
 
   -- what another view knows after a step of the holder on the turn word
-  other_knows : (value : ℕ) (state : SearchState) (bits : ℕ) → turn ≤ turn_of value → (j : ℕ) (other : View) → j ≢ id → Stands views j other →
+  other_knows : (value : ℕ) (state : SearchState) (bits : ℕ) → turn ≤ turn_of value → (j : ℕ) (other : View) → j ≢ id →
+      Stands views j other →
       ((rank : ℕ) → other.claim ≡ Some rank → turn_of value ≤ rank) → Knows plan (slice_set words 0 value) state bits other
   other_knows value state bits on j other apart there ahead =
       let k = r.each j other there in
@@ -81,8 +83,10 @@ module _ (plan : SearchPlan) (small : ranks_of plan < STOP) (words : List ℕ) (
       }
 
   -- what the holder knows after its step, in which it gave up the turn
-  mine_after : (value : ℕ) (state : SearchState) (next : View) → turn ≤ turn_of value → next.plan ≡ view.plan → next.place ≡ view.place → next.holds ≡ false →
-      next.last ≡ value → next.bits ≡ 0 → next.wrote ≡ false → ((p : ℕ) → p < plan.size → found_taken next.looks p ≡ true → is_taken plan words p ≡ true) →
+  mine_after : (value : ℕ) (state : SearchState) (next : View) → turn ≤ turn_of value → next.plan ≡ view.plan → next.place ≡ view.place →
+      next.holds ≡ false →
+      next.last ≡ value → next.bits ≡ 0 → next.wrote ≡ false →
+      ((p : ℕ) → p < plan.size → found_taken next.looks p ≡ true → is_taken plan words p ≡ true) →
       ((rank : ℕ) → next.claim ≡ Some rank → (turn_of value ≤ rank) × (rank < ranks_of plan) × (is_claimed words rank ≡ true)) →
       Knows plan (slice_set words 0 value) state 0 next
   mine_after value state next on same place rests last bits wrote looks claims =
@@ -229,7 +233,8 @@ module _ (plan : SearchPlan) (small : ranks_of plan < STOP) (words : List ℕ) (
         }
 
 -- kind 7
-pub pass_allowed : (plan : SearchPlan) (slots id rank : ℕ) (me : Me (Unit {0}) View) → ranks_of plan < STOP → me.0.holds ≡ true → me.0.claim ≡ Some rank →
+pub pass_allowed : (plan : SearchPlan) (slots id rank : ℕ) (me : Me (Unit {0}) View) → ranks_of plan < STOP → me.0.holds ≡ true →
+    me.0.claim ≡ Some rank →
     me.0.bits ≡ keys_at plan rank → me.0.wrote ≡ true →
     Allows (λ (s : State (Unit {0}) View). Kept plan s.words s.views) slots id me 0 (λ n. (n + 1) % 2 ^ 64) (PassTold (step slots 0 1 0 maybe.none) me)
 pass_allowed plan slots id rank me small held claims full wrote s r deep here fits =

@@ -64,13 +64,15 @@ grows_pilot plan words rank pilot = record {
   taken = λ p within h. is_set-other_word words (pilots_from plan + rank) pilot (bits_from plan) p (λ e. omega (arith, e)) ∙ h;
 }
 
--- a step on the turn word leaves all else
+-- a step on the turn word leaves the claims
 pub claimed-turn_set : (words : List ℕ) (value rank : ℕ) → is_claimed (slice_set words 0 value) rank ≡ is_claimed words rank
 claimed-turn_set words value rank = is_set-other_word words 0 value 1 rank (λ e. omega (arith, e))
 
+-- a step on the turn word leaves the positions
 pub taken-turn_set : (plan : SearchPlan) (words : List ℕ) (value p : ℕ) → is_taken plan (slice_set words 0 value) p ≡ is_taken plan words p
 taken-turn_set plan words value p = is_set-other_word words 0 value (bits_from plan) p (λ e. omega (arith, e))
 
+-- a step on the turn word leaves the pilots
 pub pilot-turn_set : (plan : SearchPlan) (words : List ℕ) (value rank : ℕ) → pilot_in plan (slice_set words 0 value) rank ≡ pilot_in plan words rank
 pilot-turn_set plan words value rank = get_or-set_other words 0 (pilots_from plan + rank) value 0 (λ e. omega (arith, e))
 

@@ -6,3 +6,5 @@ pub mod Told
 pub mod Passes
 pub mod Claims
 pub mod Closings
+pub mod Works
+pub mod Workers

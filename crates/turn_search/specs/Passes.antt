@@ -1,5 +1,6 @@
 -- Tables, passes and candidates as contracts see them.
-use Rattle.std.specs.Prelude.{◌≡◌, ℕ, ◌+◌, ◌/◌, ◌%◌, ◌≤◌, ◌^◌, ◌==◌, Bool, not, false, [], ◌++◌, List, length, drop, Some, Ok}
+use Rattle.std.specs.Prelude.{◌≡◌, ℕ, ◌+◌, ◌/◌, ◌%◌, ◌≤◌, ◌^◌, ◌==◌, Bool, not, false, [], ◌++◌, List, length}
+use Rattle.std.specs.Prelude.{drop, Some, Ok}
 use Rattle.std.specs.Int.{bit_at}
 use Rattle.pthash.specs.Search.{SearchPlan, SearchState, IsSearchable, prefix_of}
 use Rattle.atomic_table.specs.Seated.{TableId}

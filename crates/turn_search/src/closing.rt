@@ -61,7 +61,8 @@ fn copy_pilots(closed: &Closed<(), Global>, from: u64, pilots: &mut [u64], count
     requires within { from + count ≤ length (slots_items closed.now.words) }
     requires room { count ≤ length pilots.old }
     ensures len { length pilots.new ≡ length pilots.old }
-    ensures copied { take count pilots.new ≡ take count (drop from (slots_items closed.now.words)) }
+    ensures copied { take count pilots.new
+        ≡ take count (drop from (slots_items closed.now.words)) }
 {
     for rank in 0..count {
         pilots[rank as usize] = closed.word((from + rank) as usize);

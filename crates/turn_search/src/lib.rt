@@ -5,16 +5,23 @@ mod board;
 mod claiming;
 mod closing;
 mod committing;
+mod gate;
 mod layout;
 mod plays;
+mod searching;
 mod table;
 #[cfg(test)]
 mod tests;
 mod trying;
 mod turns;
+#[cfg(test)]
+mod worker_tests;
+mod working;
 
 pub use crate::claiming::Claim;
 pub use crate::closing::Ended;
+pub use crate::gate::{FreeGate, Gate};
+pub use crate::searching::search_turns;
 pub use crate::table::{Pass, TurnTable};
 pub use crate::trying::{Candidate, Spec};
 pub use crate::turns::Turn;

@@ -1,3 +1,5 @@
+// Passes whose calls one thread makes in turn.
+
 ghost use Rattle.std.specs.Prelude.{◌≡◌, ◌≤◌, None, IfSome};
 ghost use Rattle.pthash.specs.Order.{most_members};
 ghost use Rattle.turn_search.specs.Passes.{IsPassOf, IsOfRank};
@@ -12,7 +14,7 @@ use std::test::Fail;
 const SEED_OF_ZERO: u64 = 3_829_533_694_005_038_248;
 
 // Two buckets: the first takes the positions 0 and 1, and the second asks for `last` modulo 5.
-fn two_buckets(alloc: Global, last: u64) -> Result<Plan, NoMemory> {
+pub(crate) fn two_buckets(alloc: Global, last: u64) -> Result<Plan, NoMemory> {
     let records = [
         Record {
             a: 0,

@@ -97,7 +97,8 @@ impl<'a> TurnTable<'a> {
             Shows pass.new.view it.rank it.pilot }
         ensures pilot { (it : CandidateData) → result ≡ Found it →
             IsPilotOf self.now.plan it.rank it.pilot }
-        ensures same_rank { (it : CandidateData) → result ≡ Found it → it.rank ≡ candidate.rank }
+        ensures same_rank { (it : CandidateData) → result ≡ Found it →
+            it.rank ≡ candidate.rank }
 
         ensures stuck { (result ≡ AllRejected)
             ↔ (prefix_of self.now.plan (candidate.rank + 1) ≡ Err candidate.rank) }

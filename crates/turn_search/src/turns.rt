@@ -40,7 +40,8 @@ impl<'a> TurnTable<'a> {
         ensures ahead { (turn rank : ℕ) → result ≡ NotYet turn →
             pass.old.view.claim ≡ Some rank → turn < rank }
         ensures never_back { turn_of pass.old.view.last ≤ turn_of pass.new.view.last }
-        ensures stop_stays { HasStop pass.old.view.last → pass.new.view.last ≡ pass.old.view.last }
+        ensures stop_stays { HasStop pass.old.view.last →
+            pass.new.view.last ≡ pass.old.view.last }
     {
         let found = self.load_turn(pass);
         let turn = found % STOP;
@@ -61,7 +62,8 @@ impl<'a> TurnTable<'a> {
         ensures claim { pass.old.view.claim ≡ pass.new.view.claim }
         ensures has_turn { HasTurnIfHeld pass.new.view }
         ensures never_back { turn_of pass.old.view.last ≤ turn_of result }
-        ensures ahead { (rank : ℕ) → pass.old.view.claim ≡ Some rank → turn_of result ≤ rank }
+        ensures ahead { (rank : ℕ) → pass.old.view.claim ≡ Some rank →
+            turn_of result ≤ rank }
         ensures stop_stays { HasStop pass.old.view.last → result ≡ pass.old.view.last }
     {
         self.board.shared.load::<LoadStep>(&mut pass.seat, 0)

@@ -27,6 +27,7 @@ loop-member-preserved c =
       c.if-not-is_free.ensures.pass,
       looked_on first before after c.loop-member.invariant.1 (looked_once before after p _ look),
       ap (list_all (found_free (new_looks first after)))
-          (positions_more hash size members i (omega arith) ∙ ap (λ q. positions_under hash size (take i members) ++ q ∷ []) (sym c.remainder.ensures.value))
+          (positions_more hash size members i (omega arith)
+          ∙ ap (λ q. positions_under hash size (take i members) ++ q ∷ []) (sym c.remainder.ensures.value))
           ∙ free_more first before after (positions_under hash size (take i members)) p c.loop-member.invariant.1 look c.loop-member.invariant.2,
     )
