@@ -51,5 +51,3 @@ echo "|---|---|---|---|"
 pair "two equal records" repeat place 1000000
 pair "rounds of 4 workers, $(nproc) processors" rounds place 1000000
 pair "the same with c=200 alpha=99, 100,000 records" rounds_tight place_tight 100000
-echo
-bench/turns.sh "$runs"
