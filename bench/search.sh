@@ -70,5 +70,3 @@ rounds "100,000 records, c=200 alpha=99" _tight 100000
 if [ "${2:-}" = tight ]; then
     rounds "1,000,000 records, c=200 alpha=99" _tight 1000000
 fi
-echo
-bench/turns.sh "$runs"
