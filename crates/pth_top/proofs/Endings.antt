@@ -12,9 +12,10 @@ use Rattle.pth_outside.specs.Sink.{SinkState, LeavesSink, written, Prints, Write
 use Rattle.pth_outside.specs.SinkLaws.{LeavesSink-if}
 use Rattle.pth_top.specs.declared.TheConstants.{FILE_FAULT, FAILED_OUTPUT, INDEX_REFUSED, NO_MEMORY, REPEATED_KEY, WORDS_REFUSED}
 use Rattle.pth_top.specs.declared.answer.Answer.{Answer}
+use Rattle.pth_top.specs.declared.answer.NewFile.{NewFile}
 use Rattle.pth_top.specs.declared.answer.Stop.{Stop}
 use Rattle.pth_top.specs.declared.answer.Stop.TheVariants.{Fault, NoMemory}
-use Rattle.pth_top.specs.Done.{Done, NewFileData, done_of, with_file, with_new}
+use Rattle.pth_top.specs.Done.{Done, NewFileData, done_of, new_file_data, with_file, with_new}
 use Rattle.pth_top.specs.Ending.{EndsAs, IsCutOff, IsDone, ChangesOnly, LeavesNames, LeavesFor, Answers, Finishes, GivesUp, Ends}
 use Rattle.pth_top.specs.Finishing.{KeepsBut}
 use Rattle.pth_top.specs.Statuses.{IsOfCommand, IsStatus}
@@ -299,3 +300,8 @@ refused_over fault (Some m) = refl
 -- no call was made
 pub leaves_none : (f : FilesState) → LeavesFiles f f ⊥ ⊥
 leaves_none f = ReadsFiles-leaves f f (ReadsFiles-none f (λ none. none))
+
+-- a file is there where its data is
+pub some_file : (file : Option NewFile) → IsSome (option_map new_file_data file) → IsSome file
+some_file None some = some
+some_file (Some file) some = refl

@@ -1,6 +1,7 @@
 -- A file that is written under another name and put in its place.
-use Rattle.std.proofs.Common.{◌≡◌, ◌≢◌, ℕ, ◌+◌, List, [], ◌++◌, length, take, Option, Some, None, Result, Err, option_map, IsErrOf}
+use Rattle.std.proofs.Common.{◌≡◌, ◌≢◌, ℕ, ◌+◌, ◌-◌, List, [], ◌++◌, length, take, drop, slice_range, Option, Some, None, Result, Ok, Err, OnErr, option_map, IsErrOf}
 use Rattle.std.proofs.Common.{refl, sym, ap, ◌∙◌, subst, length-append, arith}
+use Rattle.std.proofs.Math.Seq.{take-add}
 use Rattle.std.proofs.lemmas.List.{append_assoc}
 use Rattle.std.specs.Prelude.{codes}
 use Rattle.std.specs.FinMap as map
@@ -145,3 +146,14 @@ pub with_new-other : (file : NewFileData) (m : FileMap) (other : List ℕ) → o
 with_new-other file m other apart apart_too =
     get_put_other (put_at m file.name (Some file.bytes)) (tmp_of file.name) None other apart_too
     ∙ get_put_other m file.name (Some file.bytes) other apart
+
+-- the next piece stands behind those before it
+pub next_piece : (bytes : List ℕ) (at count : ℕ) → take (at + count) bytes ≡ take at bytes ++ slice_range bytes at (at + count)
+next_piece bytes at count =
+    let room : count ≡ at + count - at = omega arith in
+    take-add at count bytes ∙ ap (λ (k : ℕ). take at bytes ++ take k (drop at bytes)) room
+
+-- what holds, holds of any error
+pub on_err : {T E : Type 0} → (r : Result T E) (P : Type 0) → P → OnErr r P
+on_err (Ok x) P holds = tt
+on_err (Err e) P holds = holds

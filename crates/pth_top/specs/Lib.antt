@@ -1,5 +1,4 @@
 pub mod Statuses
-pub mod Stops
 pub mod Texts
 pub mod Done
 pub mod Lists

@@ -2,12 +2,9 @@
 ghost use Rattle.std.specs.Prelude.{◌≡◌, ◌≢◌, ◌≤◌, IsSome};
 ghost use Rattle.pth_top.specs.Statuses.{IsOfCommand};
 ghost use Rattle.pth_top.specs.declared.answer.Stop.TheVariants.{NoMemory as OutOfMemory};
-ghost use Rattle.pth_top.specs.Stops.{stop_of};
 ghost use Rattle.pth_top.specs.declared.TheConstants.{WORDS_REFUSED, INDEX_REFUSED};
 
-use crate::{INDEX_REFUSED, WORDS_REFUSED};
 use bucket_map::NoMemory;
-use pth_outside::FileErr;
 use std::alloc::AllocError;
 
 /// A file that a command gives.
@@ -50,16 +47,5 @@ impl From<NoMemory> for Stop {
 
     fn from(_: NoMemory) -> Self {
         Stop::NoMemory
-    }
-}
-
-impl From<FileErr> for Stop {
-    ghost from_gives = { λ e stop. stop ≡ stop_of e };
-
-    fn from(e: FileErr) -> Self {
-        match e {
-            FileErr::Failed => Stop::Fault,
-            FileErr::NoMemory => Stop::NoMemory,
-        }
     }
 }

@@ -7,7 +7,6 @@ ghost use Rattle.pth_top.specs.Done.{done_of, new_file_data, with_file, with_new
 ghost use Rattle.pth_top.specs.Ending.{ChangesOnly, Finishes, GivesUp};
 ghost use Rattle.pth_top.specs.Finishing.{KeepsBut};
 ghost use Rattle.pth_top.specs.Texts.{file_fault, no_memory};
-ghost use Rattle.pth_outside.specs.declared.files.FileErr.TheVariants as errors;
 
 use crate::answer::{Answer, NewFile, Stop};
 use crate::{FAILED_OUTPUT, FILE_FAULT, INDEX_REFUSED, NO_MEMORY};
@@ -82,9 +81,32 @@ fn write_file<F: Files>(alloc: Global, file: &NewFile, files: &mut F) -> Result<
         (IsErrOf result Stop.Fault) ((F.state files.old).told ≡ None) }
 {
     let tmp = tmp_name(alloc, &file.name)?;
-    files.create(&tmp)?;
-    append_pieces(&tmp, &file.bytes, files)?;
-    files.publish(&tmp, &file.name)?;
+    match put_file(&tmp, &file.name, &file.bytes, files) {
+        Ok(()) => Ok(()),
+        Err(FileErr::Failed) => Err(Stop::Fault),
+        Err(FileErr::NoMemory) => Err(Stop::NoMemory),
+    }
+}
+
+// Writes bytes under a name, and puts the file in its place by the last call.
+fn put_file<F: Files>(
+    tmp: &str,
+    name: &str,
+    bytes: &[u8],
+    files: &mut F,
+) -> Result<(), FileErr>
+    requires { tmp.now ≡ tmp_of name.now }
+    ensures ok { OnOk result ((F.state files.new).told
+        ≡ option_map (with_new (record { name = name.now; bytes = bytes.now }))
+        (F.state files.old).told) }
+    ensures err { OnErr result (ChangesOnly tmp.now
+        (F.state files.old).told (F.state files.new).told) }
+    ensures leaves { LeavesFiles (F.state files.old) (F.state files.new)
+        (IsErrOf result FileErr.Failed) ((F.state files.old).told ≡ None) }
+{
+    files.create(tmp)?;
+    append_pieces(tmp, bytes, files)?;
+    files.publish(tmp, name)?;
     Ok(())
 }
 

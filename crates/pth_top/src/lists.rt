@@ -1,12 +1,11 @@
 // The list of keys that a command reads and the index of it, or the refusal that they deserve.
-ghost use Rattle.std.specs.Prelude.{◌≡◌, ◌≤◌, [], length, IfOk, IsErrOf, None};
+ghost use Rattle.std.specs.Prelude.{◌≡◌, ◌≢◌, ◌≤◌, [], length, Err, IfOk, IfErr, IsErrOf, None};
 ghost use Rattle.build_outcome.specs.Outcome.{repeated, exhausted};
 ghost use Rattle.command_words.specs.Options.{options_data};
 ghost use Rattle.pth_outside.specs.Files.{ReadsFiles, OfFile, contents};
 ghost use Rattle.pth_outside.specs.Keys.{keys_of};
 ghost use Rattle.pth_top.specs.Done.{done_of, or_refused};
 ghost use Rattle.pth_top.specs.Lists.{index_by, index_for, index_in, list_in, no_keys_result, too_long_result, too_many_result, IsIndexFor};
-ghost use Rattle.std.specs.Prelude.{Err};
 
 use crate::answer::{Answer, Stop};
 use crate::text::{exhausted_text, repeated_key_text, too_long_text, too_many_text};
@@ -32,6 +31,7 @@ pub fn read_list<F: Files>(
     ensures keys { IfOk result (λ end. IfOk end (λ keys.
         OfFile (F.state files.old).told name.now (λ bytes. keys ≡ keys_of bytes))) }
     ensures few { IfOk result (λ end. IfOk end (λ keys. length keys ≤ most)) }
+    ensures refused { IfOk result (λ end. IfErr end (λ answer. answer.status ≢ 0)) }
     ensures leaves { ReadsFiles (F.state files.old) (F.state files.new)
         (IsErrOf result Stop.Fault) (contents (F.state files.old).told name.now ≡ None) }
 {
@@ -57,6 +57,7 @@ pub fn build_list<R: Threads + Sync, F: Files>(
     ensures index { IfOk result (λ end. IfOk end (λ index.
         OfFile (F.state files.old).told name.now (λ bytes.
         IsIndexFor (options_data options.now) (keys_of bytes) index))) }
+    ensures refused { IfOk result (λ end. IfErr end (λ answer. answer.status ≢ 0)) }
     ensures leaves { ReadsFiles (F.state files.old) (F.state files.new)
         (IsErrOf result Stop.Fault) (contents (F.state files.old).told name.now ≡ None) }
 {
@@ -77,6 +78,7 @@ fn build_all<R: Threads + Sync>(
     ensures done { IfOk result (λ end.
         index_for (options_data options.now) keys.now ≡ or_refused end) }
     ensures index { IfOk result (λ end. IfOk end (IsIndexFor (options_data options.now) keys.now)) }
+    ensures refused { IfOk result (λ end. IfErr end (λ answer. answer.status ≢ 0)) }
 {
     if keys.len() == 0 {
         return Ok(Err(no_keys_answer(alloc)?));

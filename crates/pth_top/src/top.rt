@@ -1,5 +1,5 @@
 // The top call: from the words to a status, a text and the files.
-ghost use Rattle.std.specs.Prelude.{◌≡◌, ◌≢◌, IfSome, IsErr, IsSomeAnd, None};
+ghost use Rattle.std.specs.Prelude.{◌≡◌, ◌≢◌, Err, IfSome, IsErr, IsSomeAnd, None};
 ghost use Rattle.command_words.specs.declared.faults.WordFault.{WordFault};
 ghost use Rattle.command_words.specs.Options.{words_of};
 ghost use Rattle.command_words.specs.Words.{command_of};
@@ -9,7 +9,6 @@ ghost use Rattle.pth_top.specs.Ending.{Ends, EndsAs, IsCutOff, IsDone, LeavesFor
 ghost use Rattle.pth_top.specs.Statuses.{IsOfCommand, IsStatus};
 ghost use Rattle.pth_top.specs.Texts.{file_fault, no_memory};
 ghost use Rattle.pth_top.specs.Words.{refused, done, new_file, CommandBuilds, CommandRepeats};
-ghost use Rattle.std.specs.Prelude.{Err};
 
 use crate::build::build_command;
 use crate::finish::{show, show_want};
