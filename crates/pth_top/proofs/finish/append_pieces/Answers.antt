@@ -38,5 +38,5 @@ loop-at-preserved g c = (
   appended-more c.args.name.now (take c.loop-at.at c.args.bytes.now) _ _ (g.F.Files.state c.args.files.now).told
       (g.F.Files.state c.loop-at.files).told (g.F.Files.state c.append.new.self).told c.loop-at.invariant.1 c.in_ok-append.ensures.told
       (next_piece c.args.bytes.now c.loop-at.at c.min.result),
-  omega (arith, c.min.ensures, c.loop-at.invariant.1.1),
+  omega (arith, c.min.ensures, c.loop-at.invariant.2),
 )
