@@ -1,11 +1,13 @@
 #!/usr/bin/env python3
-"""Runs the built program and compares its statuses and texts with those that an independent program computed.
+"""Runs the built program and compares its statuses, texts and files with those that an independent program computed.
 
 usage: texts.py PROGRAM
 
 checks/pilots.tsv: the key file (checks/pilots/NAME.keys, or one of those that `made` describes), further words, the
 status and the text. checks/words.tsv: all words, over a file K of one empty line, the status and the text. A text is
 `text` and the text with \\n for a line feed, or `sha256 SUM length N`; in words.tsv it is the text alone.
+checks/indexes.tsv, checks/queries.tsv and checks/commands.tsv say in their heads what they hold. The stored run of the crate
+`check_index` has indexes with a fault, and the words for each.
 """
 import hashlib
 import pathlib
@@ -28,11 +30,15 @@ def hash_of_number(number, seed):
     return state ^ state >> 47
 
 
+def generated(count, seed):
+    return b"".join(b"%016x\n" % hash_of_number(i, seed) for i in range(count))
+
+
 def made(name):
     """Key files that are too long to keep."""
     if name.startswith("generated "):
         _, count, _, seed = name.split(" ")
-        return b"".join(b"%016x\n" % hash_of_number(i, int(seed)) for i in range(int(count)))
+        return generated(int(count), int(seed))
     return {
         "longest_line": b"q" * 65535 + b"\nz\n",
         "too_long_second": b"z\n" + b"q" * 65536 + b"\n",
@@ -40,41 +46,130 @@ def made(name):
     }[name]
 
 
+def written(name):
+    """A file that a table describes."""
+    kind, _, rest = name.partition(":")
+    if kind == "hex":
+        return bytes.fromhex(rest)
+    if kind == "seq":
+        return b"".join(b"k%d\n" % i for i in range(int(rest)))
+    count, _, seed = rest.partition(":")
+    return generated(int(count), int(seed))
+
+
+def plain(text):
+    return text.replace("\\n", "\n").encode()
+
+
 def matches(text, want):
     kind, _, rest = want.partition(" ")
     if kind == "text":
-        return text == rest.replace("\\n", "\n").encode()
+        return text == plain(rest)
     _, total, _, length = want.split(" ")
     return len(text) == int(length) and hashlib.sha256(text).hexdigest() == total
 
 
-def cases():
-    for line in (HERE / "pilots.tsv").read_text().splitlines():
+def table(name):
+    for line in (HERE / name).read_text().splitlines():
         if not line.startswith("#"):
-            name, words, status, want = line.split("\t")
+            yield line.split("\t")
+
+
+class Checks:
+    def __init__(self, program, folder):
+        self.program = program
+        self.folder = pathlib.Path(folder)
+        self.passed = self.failed = 0
+
+    def put(self, name, data):
+        (self.folder / name).write_bytes(data)
+
+    def run(self, words):
+        return subprocess.run([self.program, *words], stdout=subprocess.PIPE, cwd=self.folder, timeout=600)
+
+    def same(self, what, holds, found, wanted):
+        if holds:
+            self.passed += 1
+        else:
+            self.failed += 1
+            print(f"{what}: {str(found)[:200]}, wanted {str(wanted)[:200]}")
+
+    def texts(self):
+        for name, words, status, want in table("pilots.tsv"):
             path = HERE / "pilots" / f"{name}.keys"
-            keys = path.read_bytes() if path.exists() else made(name)
-            yield keys, ["pilots", "K", *words.split()], int(status), want
-    for line in (HERE / "words.tsv").read_text().splitlines():
-        if not line.startswith("#"):
-            words, status, want = line.split("\t")
-            yield b"\n", words.split(), int(status), "text " + want
+            self.put("K", path.read_bytes() if path.exists() else made(name))
+            self.text(["pilots", "K", *words.split()], int(status), want)
+        self.put("K", b"\n")
+        for words, status, want in table("words.tsv"):
+            self.text(words.split(), int(status), "text " + want)
+
+    def text(self, words, status, want):
+        run = self.run(words)
+        self.same(words, run.returncode == status and matches(run.stdout, want), (run.returncode, run.stdout), (status, want))
+
+    def indexes(self):
+        index = self.folder / "I"
+        for keys, settings, status, want, length, digest, text in table("indexes.tsv"):
+            self.put("K", written(keys))
+            self.put("I", b"old")
+            run = self.run(["build", "K", "I", *settings.split()])
+            found = index.read_bytes()
+            right = run.returncode == int(status) and run.stdout == plain(want) and not (self.folder / "I.tmp").exists()
+            if status == "0":
+                right = right and len(found) == int(length) and int.from_bytes(found[-8:], "little") == int(digest)
+                right = right and text in ("-", found.hex())
+            else:
+                right = right and found == b"old"
+            self.same(("build", keys, settings), right, (run.returncode, run.stdout, found[-8:]), (status, want, digest))
+
+    def queries(self):
+        built = None
+        for keys, settings, queries, status, want in table("queries.tsv"):
+            if built != (keys, settings):
+                built = (keys, settings)
+                self.put("K", written(keys))
+                self.run(["build", "K", "I", *settings.split()])
+            self.put("Q", written(queries))
+            run = self.run(["query", "I", "Q"])
+            right = run.returncode == int(status) and run.stdout == plain(want)
+            self.same(("query", keys, settings, queries), right, (run.returncode, run.stdout), (status, want))
+
+    def commands(self):
+        self.put("K", b"\n")
+        self.run(["build", "K", "I"])
+        index = (self.folder / "I").read_bytes()
+        for words, status, want in table("commands.tsv"):
+            for name in self.folder.iterdir():
+                name.unlink()
+            for name in ["K", "I.part", "I.part0", "I.partition", "I.tmp", "I.par"]:
+                self.put(name, b"\n")
+            self.put("I", index)
+            run = self.run(words.split(" ") if words else [])
+            right = run.returncode == int(status) and want in ("-", run.stdout.decode().replace("\n", "\\n"))
+            self.same(words, right, (run.returncode, run.stdout), (status, want))
+
+    def refusals(self):
+        stored = HERE.parent / "crates" / "check_index"
+        lines = (stored / "stdin").read_text().splitlines(), (stored / "stdout").read_text().splitlines()
+        self.put("Q", b"")
+        for line, fault in zip(*lines):
+            if " " not in line and fault != "ok":
+                self.put("I", bytes.fromhex(line))
+                run = self.run(["query", "I", "Q"])
+                want = b"index refused: %s\n" % fault.encode()
+                self.same(("query", line[:80]), (run.returncode, run.stdout) == (6, want), (run.returncode, run.stdout), (6, want))
 
 
 def main():
-    program = str(pathlib.Path(sys.argv[1]).resolve())
-    passed = failed = 0
     with tempfile.TemporaryDirectory() as folder:
-        for keys, words, status, want in cases():
-            (pathlib.Path(folder) / "K").write_bytes(keys)
-            run = subprocess.run([program, *words], stdout=subprocess.PIPE, cwd=folder, timeout=600)
-            if run.returncode == status and matches(run.stdout, want):
-                passed += 1
-            else:
-                failed += 1
-                print(f"{words}: status {run.returncode}, text {run.stdout[:200]!r}, wanted {status} {want[:200]}")
-    print(f"texts of the program: {passed} passed, {failed} failed")
-    return 1 if failed else 0
+        checks = Checks(str(pathlib.Path(sys.argv[1]).resolve()), folder)
+        checks.texts()
+        checks.indexes()
+        checks.queries()
+        checks.refusals()
+        checks.commands()
+    print(f"texts and indexes of the program: {checks.passed} passed, {checks.failed} failed")
+    return 1 if checks.failed else 0
 
 
 if __name__ == "__main__":

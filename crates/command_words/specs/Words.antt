@@ -1,21 +1,26 @@
 -- The command that words ask for, or the first faulty word.
 use Rattle.std.specs.Prelude.{ℕ, ◌+◌, List, [], ◌∷◌, string_bytes, codes, bytes_eq, if◌then◌else◌, Option, Some, None, Result, Ok, Err}
 use Rattle.command_words.specs.declared.faults.WordFault.{WordFault}
-use Rattle.command_words.specs.declared.kinds.TheConstants.{COMMAND, MISSING}
+use Rattle.command_words.specs.declared.kinds.TheConstants.{COMMAND, MISSING, EXTRA, SAME_NAME}
 use Rattle.command_words.specs.declared.words.Command.{Command}
-use Rattle.command_words.specs.declared.words.Command.TheVariants.{Pilots}
+use Rattle.command_words.specs.declared.words.Command.TheVariants.{Pilots, Build, Query}
 use Rattle.command_words.specs.declared.words.Name.{Name}
 use Rattle.command_words.specs.declared.words.Name.TheVariants as name
+use Rattle.command_words.specs.Names.{belongs_to_index}
 use Rattle.command_words.specs.Options.{OptionsData, options_data}
 use Rattle.command_words.specs.Settings.{Given, nothing_given, with_word, options_of}
 
 -- a command: its names as bytes, and its settings
 pub data CommandData : Type 0 where
   PilotsOf : List ℕ → OptionsData → CommandData
+  BuildOf : List ℕ → List ℕ → OptionsData → CommandData
+  QueryOf : List ℕ → List ℕ → CommandData
 
 -- a command as data
 abbrev pub command_data : Command → CommandData
 command_data (Pilots keys options) = PilotsOf (string_bytes keys) (options_data options)
+command_data (Build keys index options) = BuildOf (string_bytes keys) (string_bytes index) (options_data options)
+command_data (Query index queries) = QueryOf (string_bytes index) (string_bytes queries)
 
 -- a fault of this kind in this word
 abbrev pub fault_at : ℕ → ℕ → WordFault
@@ -50,14 +55,38 @@ abbrev pub pilots_of : List (List ℕ) → Result CommandData WordFault
 pilots_of [] = Err (fault_at 1 MISSING)
 pilots_of (keys ∷ settings) = with_options (PilotsOf keys) (options_in settings 2)
 
+-- a command on a key file and an index, unless the key file is named as its build may write
+abbrev pub unless_same : List ℕ → List ℕ → Result CommandData WordFault → Result CommandData WordFault
+unless_same keys index (Err fault) = Err fault
+unless_same keys index (Ok command) = if belongs_to_index keys index then Err (fault_at 1 SAME_NAME) else Ok command
+
+-- the command `build`, from the words after it: the key file, the index, and settings
+abbrev pub build_of : List (List ℕ) → Result CommandData WordFault
+build_of [] = Err (fault_at 1 MISSING)
+build_of (keys ∷ []) = Err (fault_at 2 MISSING)
+build_of (keys ∷ index ∷ settings) = unless_same keys index (with_options (BuildOf keys index) (options_in settings 3))
+
+-- the command `query`, from the words after it: the index and the queries
+abbrev pub query_of : List (List ℕ) → Result CommandData WordFault
+query_of [] = Err (fault_at 1 MISSING)
+query_of (index ∷ []) = Err (fault_at 2 MISSING)
+query_of (index ∷ queries ∷ []) = Ok (QueryOf index queries)
+query_of (index ∷ queries ∷ extra ∷ more) = Err (fault_at 3 EXTRA)
+
 -- the name of a command that a word is
 abbrev pub name_of : List ℕ → Option Name
-name_of word = if bytes_eq word (codes "pilots") then Some name.Pilots else None
+name_of word =
+    if bytes_eq word (codes "pilots") then Some name.Pilots
+    else if bytes_eq word (codes "build") then Some name.Build
+    else if bytes_eq word (codes "query") then Some name.Query
+    else None
 
 -- the command of a name, from the words after it
 abbrev pub command_named : Option Name → List (List ℕ) → Result CommandData WordFault
 command_named None words = Err (fault_at 0 COMMAND)
 command_named (Some name.Pilots) words = pilots_of words
+command_named (Some name.Build) words = build_of words
+command_named (Some name.Query) words = query_of words
 
 -- the command that the words after the program's name ask for, or the first faulty word
 unfoldable pub command_of : List (List ℕ) → Result CommandData WordFault

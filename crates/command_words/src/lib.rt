@@ -5,6 +5,7 @@ mod chosen;
 mod faults;
 /// The kinds of faults, by their numbers.
 pub mod kinds;
+mod names;
 mod number;
 mod options;
 #[cfg(test)]

@@ -1,7 +1,8 @@
 // What no clause says: that memory is enough, over words of an independent program.
-use crate::kinds::{COMMAND, MISSING, NAME, NUMBER, RANGE, REPEATED};
+use crate::kinds::{COMMAND, EXTRA, MISSING, NAME, NUMBER, RANGE, REPEATED, SAME_NAME};
 use crate::{Code, Command, How, Map, WordFault, WordsErr, read_words};
 use std::alloc::{AllocError, Global};
+use std::process::Abort;
 use std::test::Fail;
 
 // The words of a line, each a text of its own.
@@ -82,12 +83,40 @@ const FAULTY: [(&str, u64, u8); 57] = [
     ("--help", 0, COMMAND),
 ];
 
+// The same of the commands on two files.
+const FAULTY_OF_TWO: [(&str, u64, u8); 18] = [
+    ("build", 1, MISSING),
+    ("build K", 2, MISSING),
+    ("build K I alpha=49", 3, RANGE),
+    ("build K I alpha=98 alpha=98", 4, REPEATED),
+    ("build K I beta=1", 3, NAME),
+    ("build K I alpha=098", 3, NUMBER),
+    ("build K I map=flat", 3, RANGE),
+    ("build K K", 1, SAME_NAME),
+    ("build I.tmp I", 1, SAME_NAME),
+    ("build I.part I", 1, SAME_NAME),
+    ("build I.part0 I", 1, SAME_NAME),
+    ("build I.partition I seeds=1", 1, SAME_NAME),
+    ("build I I alpha=49", 3, RANGE),
+    ("query", 1, MISSING),
+    ("query I", 2, MISSING),
+    ("query I Q x", 3, EXTRA),
+    ("query I Q x y", 3, EXTRA),
+    ("Build K I", 0, COMMAND),
+];
+
 #[test]
 fn the_first_faulty_word_is_named(rt: HostRuntime) -> Result<(), Fail> {
-    for (line, word, kind) in FAULTY {
+    are_faulty(&rt, &FAULTY)?;
+    are_faulty(&rt, &FAULTY_OF_TWO)
+}
+
+// Each line has its first faulty word and the kind of its fault.
+fn are_faulty<R: Abort + AllocGlobal>(rt: &R, lines: &[(&str, u64, u8)]) -> Result<(), Fail> {
+    for &(line, word, kind) in lines {
         match read_line(rt.alloc(), line)? {
             Err(WordsErr::Bad(fault)) => {
-                assert_eq!(&rt; fault, WordFault { word, kind }, "{line}");
+                assert_eq!(rt; fault, WordFault { word, kind }, "{line}");
             }
             Err(WordsErr::NoMemory) => return Err(Fail::from("no memory")),
             Ok(_) => return Err(Fail::from("a faulty line is accepted")),
@@ -147,5 +176,24 @@ fn settings_are_as_words_give_them(rt: HostRuntime) -> Result<(), Fail> {
         (Code::Parted, Some(Code::EliasFano))
     );
     assert_eq!(&rt; (options.blocks, options.most), (65536, 1));
+    Ok(())
+}
+
+#[test]
+fn names_are_kept_as_they_stand(rt: HostRuntime) -> Result<(), Fail> {
+    for (line, names) in [
+        ("build I.par I", ("I.par", "I")),
+        ("build I .tmp", ("I", ".tmp")),
+        ("build I.t I.tmp", ("I.t", "I.tmp")),
+    ] {
+        let Ok(Command::Build { keys, index, .. }) = read_line(rt.alloc(), line)? else {
+            return Err(Fail::from("a good line is refused"));
+        };
+        assert_eq!(&rt; (keys.as_str(), index.as_str()), names);
+    }
+    let Ok(Command::Query { index, queries }) = read_line(rt.alloc(), "query I I")? else {
+        return Err(Fail::from("a good line is refused"));
+    };
+    assert_eq!(&rt; (index.as_str(), queries.as_str()), ("I", "I"));
     Ok(())
 }

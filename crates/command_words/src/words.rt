@@ -3,24 +3,39 @@ ghost use Rattle.std.specs.Prelude.{◌≡◌, ◌+◌, ◌<◌, ◌^◌, IfOk, 
 ghost use Rattle.command_words.specs.Options.{words_of, options_data};
 ghost use Rattle.command_words.specs.Refusals.{IfBad};
 ghost use Rattle.command_words.specs.Settings.{chosen_values, nothing_given};
-ghost use Rattle.command_words.specs.Words.{command_data, name_of, command_named, command_of, pilots_of, options_in, given_by};
+ghost use Rattle.command_words.specs.Words.{command_data, name_of, command_named, command_of, pilots_of, build_of, query_of, options_in, given_by};
 
 use crate::chosen::Chosen;
 use crate::faults::{Refusal, WordFault, WordsErr};
-use crate::kinds::{COMMAND, MISSING};
+use crate::kinds::{COMMAND, EXTRA, MISSING, SAME_NAME};
+use crate::names::is_of_index;
 use crate::options::Options;
 use std::alloc::Global;
 
 /// A command with its names and its settings.
 #[derive(Debug, Drop)]
 pub enum Command {
-    Pilots { keys: String, options: Options },
+    Pilots {
+        keys: String,
+        options: Options,
+    },
+    Build {
+        keys: String,
+        index: String,
+        options: Options,
+    },
+    Query {
+        index: String,
+        queries: String,
+    },
 }
 
 // The name of a command.
 #[derive(Clone, Copy, Debug, PartialEq, Eq)]
 pub enum Name {
     Pilots,
+    Build,
+    Query,
 }
 
 /// The command that the words after the program's name ask for, or the first faulty word.
@@ -50,6 +65,8 @@ fn name_in(word: &str) -> Option<Name>
 {
     match word {
         "pilots" => Some(Name::Pilots),
+        "build" => Some(Name::Build),
+        "query" => Some(Name::Query),
         _ => None,
     }
 }
@@ -63,6 +80,8 @@ fn read_command(alloc: Global, name: Name, words: &[String]) -> Result<Command, 
 {
     match name {
         Name::Pilots => read_pilots(alloc, words),
+        Name::Build => read_build(alloc, words),
+        Name::Query => read_query(alloc, words),
     }
 }
 
@@ -77,6 +96,49 @@ fn read_pilots(alloc: Global, words: &[String]) -> Result<Command, WordsErr>
     let options = read_options(alloc, settings, 2)?;
     let keys = String::from_str(alloc, keys)?;
     Ok(Command::Pilots { keys, options })
+}
+
+// The command `build`, from the words after it.
+fn read_build(alloc: Global, words: &[String]) -> Result<Command, WordsErr>
+    ensures ok { IfOk result (λ c. build_of (words_of words.now) ≡ Ok (command_data c)) }
+    ensures bad { IfErr result (IfBad (λ fault. build_of (words_of words.now) ≡ Err fault)) }
+{
+    let Some((keys, rest)) = words.split_first() else {
+        return Err(bad(1, MISSING));
+    };
+    let Some((index, settings)) = rest.split_first() else {
+        return Err(bad(2, MISSING));
+    };
+    let options = read_options(alloc, settings, 3)?;
+    if is_of_index(keys, index) {
+        return Err(bad(1, SAME_NAME));
+    }
+    let keys = String::from_str(alloc, keys)?;
+    let index = String::from_str(alloc, index)?;
+    Ok(Command::Build {
+        keys,
+        index,
+        options,
+    })
+}
+
+// The command `query`, from the words after it.
+fn read_query(alloc: Global, words: &[String]) -> Result<Command, WordsErr>
+    ensures ok { IfOk result (λ c. query_of (words_of words.now) ≡ Ok (command_data c)) }
+    ensures bad { IfErr result (IfBad (λ fault. query_of (words_of words.now) ≡ Err fault)) }
+{
+    let Some((index, rest)) = words.split_first() else {
+        return Err(bad(1, MISSING));
+    };
+    let Some((queries, more)) = rest.split_first() else {
+        return Err(bad(2, MISSING));
+    };
+    if !more.is_empty() {
+        return Err(bad(3, EXTRA));
+    }
+    let index = String::from_str(alloc, index)?;
+    let queries = String::from_str(alloc, queries)?;
+    Ok(Command::Query { index, queries })
 }
 
 // The settings that words give, the first of them in this word.

@@ -1,15 +1,28 @@
--- How a run ends whose words are refused.
-use Rattle.std.proofs.Common.{◌≡◌, ℕ, List, Option, ⊎_elim, ap, subst, ◌∙◌, arith}
-use Rattle.std.specs.Prelude.{◌⊎◌, string_bytes}
+-- How commands end.
+use Rattle.std.proofs.Common.{◌≡◌, ◌≢◌, ◌≤◌, ℕ, List, Option, Some, None, Result, Ok, Err, IsSome, IsErr, IfSome, IfOk, IfErr, option_map, IsErrOf}
+use Rattle.std.proofs.Common.{inl, inr, ⊎_elim, refl, sym, ap, subst, ◌∙◌, arith}
+use Rattle.std.specs.Prelude.{◌⊎◌, IsSomeAnd, option_and_then}
+use Rattle.std.specs.FinMap as map
 use Rattle.command_words.specs.declared.faults.WordFault.{WordFault}
-use Rattle.pth_outside.specs.Files.{FileMap}
-use Rattle.pth_outside.specs.Sink.{SinkState, written, Prints, WritesFront}
-use Rattle.pth_top.specs.declared.TheConstants.{FAILED_OUTPUT, NO_MEMORY, WORDS_REFUSED}
+use Rattle.command_words.specs.Names.{tmp_of}
+use Rattle.command_words.specs.Words.{CommandData}
+use Rattle.pth_outside.specs.Files.{FileMap, FilesState, LeavesFiles, ReadsFiles, contents}
+use Rattle.pth_outside.specs.FilesLaws.{ReadsFiles-leaves, ReadsFiles-none, ReadsFiles-if, LeavesFiles-ok, LeavesFiles-if, LeavesFiles-then}
+use Rattle.pth_outside.specs.Sink.{SinkState, LeavesSink, written, Prints, WritesFront}
+use Rattle.pth_outside.specs.SinkLaws.{LeavesSink-if}
+use Rattle.pth_top.specs.declared.TheConstants.{FILE_FAULT, FAILED_OUTPUT, INDEX_REFUSED, NO_MEMORY, REPEATED_KEY, WORDS_REFUSED}
 use Rattle.pth_top.specs.declared.answer.Answer.{Answer}
-use Rattle.pth_top.specs.Done.{Done, Gives, done_of}
-use Rattle.pth_top.specs.Ending.{EndsAs}
-use Rattle.pth_top.specs.Words.{refused}
-use Rattle.pth_top.proofs.Results.{no_new_file}
+use Rattle.pth_top.specs.declared.answer.NewFile.{NewFile}
+use Rattle.pth_top.specs.declared.answer.Stop.{Stop}
+use Rattle.pth_top.specs.declared.answer.Stop.TheVariants.{Fault, NoMemory}
+use Rattle.pth_top.specs.Done.{Done, NewFileData, done_of, new_file_data, with_file, with_new}
+use Rattle.pth_top.specs.Ending.{EndsAs, IsCutOff, IsDone, ChangesOnly, LeavesNames, LeavesFor, Answers, Finishes, GivesUp, Ends}
+use Rattle.pth_top.specs.Finishing.{KeepsBut}
+use Rattle.pth_top.specs.Statuses.{IsOfCommand, IsStatus}
+use Rattle.pth_top.specs.Texts.{file_fault, no_memory}
+use Rattle.pth_top.specs.Words.{refused, command_result, new_file, CommandRepeats, CommandBuilds}
+use Rattle.pth_top.proofs.Replacing.{name_is_not_tmp, with_new-name, with_new-other}
+use Rattle.pth_top.proofs.Repeats.{command_repeats}
 
 -- how a text with a status was handed over
 pub record IsShown (status result : ℕ) (text : List ℕ) (old new : SinkState) : Type 0 where
@@ -18,6 +31,8 @@ pub record IsShown (status result : ℕ) (text : List ℕ) (old new : SinkState)
   pub whole : result ≡ 0 → new.told ≡ written text old.told
   pub done : result ≡ FAILED_OUTPUT → status ≡ 0
   pub front : result ≡ FAILED_OUTPUT → WritesFront text old new
+  pub memory : result ≡ NO_MEMORY → WritesFront no_memory old new
+  pub leaves : LeavesSink old new (result ≡ FAILED_OUTPUT)
 
 -- the result is that of the text, where it is one of neither a failed output nor want of memory
 shown_same : (status result : ℕ) → ((result ≡ status) ⊎ ((result ≡ FAILED_OUTPUT) ⊎ (result ≡ NO_MEMORY))) →
@@ -25,29 +40,268 @@ shown_same : (status result : ℕ) → ((result ≡ status) ⊎ ((result ≡ FAI
 shown_same status result answers not_failed not_want =
     ⊎_elim (λ same. same) (λ rest. ⊎_elim (λ failed. absurd (not_failed failed)) (λ want. absurd (not_want want)) rest) answers
 
--- what is given, is shown and left with its status
-ends_of : (d : Done) (answer : Answer) (result : ℕ) (text : List ℕ) (sink sink' : SinkState) (old new : Option FileMap) →
-    Gives d answer old new → text ≡ d.text → IsShown answer.status result text sink sink' → result ≡ answer.status →
-    EndsAs d result sink sink' old new
-ends_of d answer result text sink sink' old new gives says shown ends = record {
-  status_is = ends ∙ gives.status_is;
-  shown = subst (λ (t : List ℕ). Prints t sink sink') says (shown.shown ends);
-  whole = λ zero. subst (λ (t : List ℕ). sink'.told ≡ written t sink.told) says (shown.whole zero);
-  files = gives.files;
+-- a status that is shown is one of a run
+shown_status : (status result : ℕ) → ((result ≡ status) ⊎ ((result ≡ FAILED_OUTPUT) ⊎ (result ≡ NO_MEMORY))) → status ≤ INDEX_REFUSED → IsStatus result
+shown_status status result answers few = ⊎_elim (λ same. inl (omega arith)) (λ rest. inr rest) answers
+
+-- a fault is never shown where the status is that of a command
+shown_no_fault : (status result : ℕ) → ((result ≡ status) ⊎ ((result ≡ FAILED_OUTPUT) ⊎ (result ≡ NO_MEMORY))) → status ≢ FILE_FAULT → result ≢ FILE_FAULT
+shown_no_fault status result answers own is =
+    ⊎_elim (λ same. own (sym same ∙ is)) (λ rest. ⊎_elim (λ failed. omega arith) (λ want. omega arith) rest) answers
+
+-- files without a new one are those from before
+pub no_new_file : (old : Option FileMap) → old ≡ option_map (with_file None) old
+no_new_file None = refl
+no_new_file (Some m) = refl
+
+-- what has the name of a file that was written, where the files tell
+either_written : (file : NewFileData) (old new : Option FileMap) → new ≡ option_map (with_new file) old →
+    (contents new file.name ≡ contents old file.name) ⊎ (contents new file.name ≡ Some file.bytes)
+either_written file None new is = inl (ap (λ t. contents t file.name) is)
+either_written file (Some m) new is = inr (ap (λ t. contents t file.name) is ∙ with_new-name file m)
+
+-- what other names have then
+others_written : (file : NewFileData) (old new : Option FileMap) → new ≡ option_map (with_new file) old →
+    (other : List ℕ) → other ≢ file.name → other ≢ tmp_of file.name → contents new other ≡ contents old other
+others_written file None new is other apart apart_too = ap (λ t. contents t other) is
+others_written file (Some m) new is other apart apart_too =
+    ap (λ t. contents t other) is ∙ with_new-other file m other apart apart_too
+
+-- what becomes of the files where the new one was written
+names_written : (file : Option NewFileData) (status : ℕ) (old new : Option FileMap) → new ≡ option_map (with_file file) old →
+    (IsSome file → status ≢ 0 → status ≢ FAILED_OUTPUT → status ≢ NO_MEMORY → ⊥) → LeavesFor file status old new
+names_written None status old new is never = is ∙ sym (no_new_file old)
+names_written (Some file) status old new is never = record {
+  written = λ done. is;
+  kept = λ some no_failure no_want. absurd (never refl some no_failure no_want);
+  either = either_written file old new is;
+  others = others_written file old new is;
+  silent = λ none. is ∙ ap (option_map (with_new file)) none;
 }
 
--- words are refused
-pub ends_refused : (fault : WordFault) (answer : Answer) (result : ℕ) (text : List ℕ) (sink sink' : SinkState)
-    (old new : Option FileMap) → done_of answer ≡ refused fault → text ≡ string_bytes answer.text → new ≡ old →
-    IsShown answer.status result text sink sink' → (result ≡ NO_MEMORY → ⊥) →
-    EndsAs (refused fault) result sink sink' old new
-ends_refused fault answer result text sink sink' old new is says same shown known =
-    let status : answer.status ≡ WORDS_REFUSED = ap (λ (d : Done). d.status) is in
-    let not_failed : result ≡ FAILED_OUTPUT → ⊥ = λ failed. let done : answer.status ≡ 0 = shown.done failed in omega arith in
-    let given : Gives (refused fault) answer old new = record {
-      status_is = status;
-      text_is = ap (λ (d : Done). d.text) is;
-      files = same ∙ no_new_file old;
-    } in
-    ends_of (refused fault) answer result text sink sink' old new given (says ∙ given.text_is) shown
-    (shown_same answer.status result shown.answers not_failed known)
+-- what becomes of the files where it was not
+names_kept : (file : Option NewFileData) (status : ℕ) (old new : Option FileMap) → KeepsBut file old new → (IsDone status → ⊥) →
+    LeavesFor file status old new
+names_kept None status old new keeps never = keeps
+names_kept (Some file) status old new keeps never = record {
+  written = λ done. absurd (never done);
+  kept = λ some no_failure no_want. keeps.others file.name (name_is_not_tmp file.name);
+  either = inl (keeps.others file.name (name_is_not_tmp file.name));
+  others = λ other apart apart_too. keeps.others other apart_too;
+  silent = keeps.silent;
+}
+
+-- what becomes of the files where none changed
+names_stay : (file : Option NewFileData) (status : ℕ) (old new : Option FileMap) → new ≡ old → (IsDone status → ⊥) → LeavesFor file status old new
+names_stay None status old new same never = same
+names_stay (Some file) status old new same never = record {
+  written = λ done. absurd (never done);
+  kept = λ some no_failure no_want. ap (λ t. contents t file.name) same;
+  either = inl (ap (λ t. contents t file.name) same);
+  others = λ other apart apart_too. ap (λ t. contents t other) same;
+  silent = λ none. same ∙ none;
+}
+
+-- files that tell nothing go on to tell nothing
+names_silent : (file : Option NewFileData) (status : ℕ) (new : Option FileMap) → LeavesFor file status None new → new ≡ None
+names_silent None status new leaves = leaves
+names_silent (Some file) status new leaves = leaves.silent refl
+
+-- a file is there only where it is not none
+kept_file : (file : Option NewFileData) (old new : Option FileMap) → new ≡ option_map (with_file file) old → (IsSome file → ⊥) → new ≡ old
+kept_file None old new is never = is ∙ sym (no_new_file old)
+kept_file (Some file) old new is never = absurd (never refl)
+
+-- a command whose file was written, and whose text was handed over
+pub finishes_shown : (d : Done) (result : ℕ) (text : List ℕ) (f f' : FilesState) (s s' : SinkState) {failed because : Type 0} →
+    text ≡ d.text → IsOfCommand d.status → d.status ≤ INDEX_REFUSED → (IsSome d.file → d.status ≡ 0) →
+    f'.told ≡ option_map (with_file d.file) f.told → LeavesFiles f f' failed because → IsShown d.status result text s s' →
+    Finishes d result f f' s s'
+finishes_shown d result text f f' s s' says own few whole is leaves shown =
+    let no_fault : result ≢ FILE_FAULT = shown_no_fault d.status result shown.answers own.no_fault in
+    record {
+      ends = λ of_command. let same : result ≡ d.status = shown_same d.status result shown.answers of_command.no_failed_output of_command.no_want in record {
+        status_is = same;
+        shown = subst (λ (t : List ℕ). Prints t s s') says (shown.shown same);
+        whole = λ zero. subst (λ (t : List ℕ). s'.told ≡ written t s.told) says (shown.whole zero);
+        files = is;
+      };
+      statuses = shown_status d.status result shown.answers few;
+      leaves = LeavesFiles-ok f f' no_fault leaves;
+      fault_text = λ fault. absurd (no_fault fault);
+      prints = shown.leaves;
+      cut_off = λ failed. record {
+        well_done = shown.done failed;
+        front = subst (λ (t : List ℕ). WritesFront t s s') says (shown.front failed);
+        files = is;
+      };
+      memory = shown.memory;
+      names = names_written d.file result f.told f'.told is
+          (λ some no_zero no_failure no_want. no_zero (shown_same d.status result shown.answers no_failure no_want ∙ whole some));
+      kept = λ no_zero no_failure no_want no_fault. kept_file d.file f.told f'.told is
+          (λ some. no_zero (shown_same d.status result shown.answers no_failure no_want ∙ whole some));
+    }
+
+-- the two statuses of a command that was not done
+gave_up_not_done : {fault : Type 0} (status : ℕ) → ((status ≡ NO_MEMORY) ⊎ ((status ≡ FILE_FAULT) × fault)) → IsDone status → ⊥
+gave_up_not_done status statuses done =
+    ⊎_elim (λ want. ⊎_elim (λ zero. omega arith) (λ failed. omega arith) done)
+    (λ fault. let is : status ≡ FILE_FAULT = fault.0 in ⊎_elim (λ zero. omega arith) (λ failed. omega arith) done) statuses
+
+-- where a command was not done, its status is of a run
+gave_up_status : {fault : Type 0} (status : ℕ) → ((status ≡ NO_MEMORY) ⊎ ((status ≡ FILE_FAULT) × fault)) → IsStatus status
+gave_up_status status statuses =
+    ⊎_elim (λ want. inr (inr want)) (λ fault. let is : status ≡ FILE_FAULT = fault.0 in inl (omega arith)) statuses
+
+-- a fault was met where that is the status
+gave_up_fault : {fault : Type 0} (status : ℕ) → ((status ≡ NO_MEMORY) ⊎ ((status ≡ FILE_FAULT) × fault)) → status ≡ FILE_FAULT → fault
+gave_up_fault status statuses is = ⊎_elim (λ want. absurd (omega arith)) (λ fault. fault.1) statuses
+
+-- and the status is one of the two
+gave_up_two : {fault : Type 0} (status : ℕ) → ((status ≡ NO_MEMORY) ⊎ ((status ≡ FILE_FAULT) × fault)) → status ≢ NO_MEMORY → status ≢ FILE_FAULT → ⊥
+gave_up_two status statuses no_want no_fault = ⊎_elim (λ want. no_want want) (λ fault. no_fault fault.0) statuses
+
+-- want of memory
+pub gives_up_want : (fault : Type 0) (status : ℕ) (s s' : SinkState) → status ≡ NO_MEMORY → WritesFront no_memory s s' →
+    LeavesSink s s' (status ≡ FAILED_OUTPUT) → GivesUp fault status s s'
+gives_up_want fault status s s' want front leaves = record {
+  statuses = inl want;
+  fault_text = λ is. absurd (omega arith);
+  prints = leaves;
+  memory = λ is. front;
+}
+
+-- a fault whose text was handed over
+pub gives_up_fault : (fault : Type 0) (result : ℕ) (s s' : SinkState) → fault → IsShown FILE_FAULT result file_fault s s' → GivesUp fault result s s'
+gives_up_fault fault result s s' met shown = record {
+  statuses = ⊎_elim (λ same. inr (same, met)) (λ rest. ⊎_elim (λ failed. let zero : FILE_FAULT ≡ 0 = shown.done failed in absurd (omega arith)) (λ want. inl want) rest) shown.answers;
+  fault_text = shown.shown;
+  prints = shown.leaves;
+  memory = shown.memory;
+}
+
+-- a command whose file was not written
+pub finishes_stopped : (d : Done) (result : ℕ) (f f' : FilesState) (s s' : SinkState) {fault : Type 0} →
+    KeepsBut d.file f.told f'.told → LeavesFiles f f' fault (f.told ≡ None) → GivesUp fault result s s' → Finishes d result f f' s s'
+finishes_stopped d result f f' s s' keeps leaves gave_up = record {
+  ends = λ of_command. absurd (gave_up_two result gave_up.statuses of_command.no_want of_command.no_fault);
+  statuses = gave_up_status result gave_up.statuses;
+  leaves = LeavesFiles-if f f' (gave_up_fault result gave_up.statuses) (λ none. none) leaves;
+  fault_text = gave_up.fault_text;
+  prints = gave_up.prints;
+  cut_off = λ failed. absurd (gave_up_not_done result gave_up.statuses (inr failed));
+  memory = gave_up.memory;
+  names = names_kept d.file result f.told f'.told keeps (gave_up_not_done result gave_up.statuses);
+  kept = λ no_zero no_failure no_want no_fault. absurd (gave_up_two result gave_up.statuses no_want no_fault);
+}
+
+-- the same from files that were only read before
+pub finishes_from : (d : Done) (result : ℕ) (f g h : FilesState) (s s' : SinkState) {failed because : Type 0} →
+    ReadsFiles f g failed because → Finishes d result g h s s' → Finishes d result f h s s'
+finishes_from d result f g h s s' reads finishes = record {
+  ends = λ of_command. subst (λ t. EndsAs d result s s' t h.told) reads.told (finishes.ends of_command);
+  statuses = finishes.statuses;
+  leaves = LeavesFiles-if f h (λ is. is) (λ none. sym reads.told ∙ none) (LeavesFiles-then f g h (ReadsFiles-leaves f g reads) finishes.leaves);
+  fault_text = finishes.fault_text;
+  prints = finishes.prints;
+  cut_off = λ failed. subst (λ t. IsCutOff d s s' t h.told) reads.told (finishes.cut_off failed);
+  memory = finishes.memory;
+  names = subst (λ t. LeavesFor d.file result t h.told) reads.told finishes.names;
+  kept = λ no_zero no_failure no_want no_fault. finishes.kept no_zero no_failure no_want no_fault ∙ reads.told;
+}
+
+-- what a command gives, and what holds of it
+some_and : (told : Option FileMap) (found : FileMap → Option Done) (d : Done) (P : Done → Type 0) → IfSome told (λ m. found m ≡ Some d) → P d →
+    IfSome told (λ m. IsSomeAnd (found m) P)
+some_and None found d P is holds = tt
+some_and (Some m) found d P is holds = subst (λ (x : Option Done). IsSomeAnd x P) (sym is) holds
+
+-- the new file of a command is that of what it gives
+names_for : (told : Option FileMap) (command : Result CommandData WordFault) (d : Done) (status : ℕ) (new : Option FileMap) →
+    IfSome told (λ m. command_result command m ≡ Some d) → LeavesFor d.file status told new → LeavesFor (new_file command told) status told new
+names_for None command d status new is leaves = names_silent d.file status new leaves
+names_for (Some m) command d status new is leaves =
+    subst (λ (x : Option NewFileData). LeavesFor x status (Some m) new) (sym (ap (option_and_then (λ (d : Done). d.file)) is)) leaves
+
+-- files that tell nothing give no cause
+of_silent : (told : Option FileMap) (found : FileMap → Option Done) → told ≡ None → IfSome told (λ m. found m ≡ None)
+of_silent None found is = tt
+of_silent (Some m) found is = absurd cc
+
+-- what was done has its files
+done_files : (d : Done) (status : ℕ) (f f' : FilesState) (s s' : SinkState) → Finishes d status f f' s s' → IsDone status →
+    (d.status ≡ 0) × (f'.told ≡ option_map (with_file d.file) f.told)
+done_files d status f f' s s' finishes done = ⊎_elim
+    (λ zero. let ends : EndsAs d status s s' f.told f'.told = finishes.ends (record {
+      no_fault = λ is. omega arith; no_failed_output = λ is. omega arith; no_want = λ is. omega arith }) in
+    (sym ends.status_is ∙ zero, ends.files))
+    (λ failed. let cut : IsCutOff d s s' f.told f'.told = finishes.cut_off failed in (cut.well_done, cut.files))
+    done
+
+-- a command that was done, over the files from before
+pub ends_done : (command : Result CommandData WordFault) (d : Done) (status : ℕ) (f f' : FilesState) (s s' : SinkState) →
+    IfSome f.told (λ m. command_result command m ≡ Some d) →
+    (d.status ≡ 0 → IfSome f.told (λ m. CommandBuilds command m (option_map (with_file d.file) f.told))) →
+    (d.status ≡ WORDS_REFUSED → IsErr command) → Finishes d status f f' s s' → Ends command status f f' s s'
+ends_done command d status f f' s s' is builds refused finishes = record {
+  done = λ of_command. some_and f.told (command_result command) d (λ d. EndsAs d status s s' f.told f'.told) is (finishes.ends of_command);
+  repeated = λ four. let ends : EndsAs d status s s' f.told f'.told = finishes.ends (record {
+      no_fault = λ is. omega arith; no_failed_output = λ is. omega arith; no_want = λ is. omega arith }) in
+      command_repeats command f.told d is (sym ends.status_is ∙ four);
+  built = λ done. let files : (d.status ≡ 0) × (f'.told ≡ option_map (with_file d.file) f.told) = done_files d status f f' s s' finishes done in
+      subst (λ t. IfSome f.told (λ m. CommandBuilds command m t)) (sym files.1) (builds files.0);
+  only_refused = λ one. let ends : EndsAs d status s s' f.told f'.told = finishes.ends (record {
+      no_fault = λ is. omega arith; no_failed_output = λ is. omega arith; no_want = λ is. omega arith }) in
+      refused (sym ends.status_is ∙ one);
+  statuses = finishes.statuses;
+  leaves = LeavesFiles-if f f' (λ is. is) (of_silent f.told (command_result command)) finishes.leaves;
+  fault_text = finishes.fault_text;
+  prints = finishes.prints;
+  cut_off = λ failed. some_and f.told (command_result command) d (λ d. IsCutOff d s s' f.told f'.told) is (finishes.cut_off failed);
+  memory = finishes.memory;
+  kept = finishes.kept;
+  names = names_for f.told command d status f'.told is finishes.names;
+}
+
+-- a command that was not done
+pub ends_stopped : (command : Result CommandData WordFault) (status : ℕ) (f f' : FilesState) (s s' : SinkState) {fault : Type 0} →
+    ReadsFiles f f' fault (IfSome f.told (λ m. command_result command m ≡ None)) → GivesUp fault status s s' → Ends command status f f' s s'
+ends_stopped command status f f' s s' reads gave_up = record {
+  done = λ of_command. absurd (gave_up_two status gave_up.statuses of_command.no_want of_command.no_fault);
+  repeated = λ four. absurd (gave_up_two status gave_up.statuses (λ is. omega arith) (λ is. omega arith));
+  built = λ done. absurd (gave_up_not_done status gave_up.statuses done);
+  only_refused = λ one. absurd (gave_up_two status gave_up.statuses (λ is. omega arith) (λ is. omega arith));
+  statuses = gave_up_status status gave_up.statuses;
+  leaves = ReadsFiles-leaves f f' (ReadsFiles-if f f' (gave_up_fault status gave_up.statuses) (λ why. why) reads);
+  fault_text = gave_up.fault_text;
+  prints = gave_up.prints;
+  cut_off = λ failed. absurd (gave_up_not_done status gave_up.statuses (inr failed));
+  memory = gave_up.memory;
+  kept = λ no_zero no_failure no_want no_fault. absurd (gave_up_two status gave_up.statuses no_want no_fault);
+  names = names_stay (new_file command f.told) status f.told f'.told reads.told (gave_up_not_done status gave_up.statuses);
+}
+
+-- how a command ends, by its answer and by how that is finished; a command that was not done makes no further call
+pub ends_command : (command : Result CommandData WordFault) (answer : Result Answer Stop) (status : ℕ) (f g h : FilesState) (s s' : SinkState) →
+    Answers command answer f g → IfOk answer (λ a. Finishes (done_of a) status g h s s') →
+    IfErr answer (λ stop. GivesUp (stop ≡ Fault) status s s') → (IsErr answer → h ≡ g) → Ends command status f h s s'
+ends_command command (Ok a) status f g h s s' answers finishes undone no_call =
+    ends_done command (done_of a) status f h s s' answers.done answers.builds (λ one. absurd (a.asked one))
+    (finishes_from (done_of a) status f g h s s' answers.reads finishes)
+ends_command command (Err stop) status f g h s s' answers finishes undone no_call =
+    subst (λ (k : FilesState). Ends command status f k s s') (sym (no_call refl))
+    (ends_stopped command status f g s s' (ReadsFiles-if f g (λ (is : stop ≡ Fault). ap Err is) (λ why. why) answers.reads) undone)
+
+-- words that are refused give their refusal over whatever files
+pub refused_over : (fault : WordFault) (told : Option FileMap) → IfSome told (λ m. command_result (Err fault) m ≡ Some (refused fault))
+refused_over fault None = tt
+refused_over fault (Some m) = refl
+
+-- no call was made
+pub leaves_none : (f : FilesState) → LeavesFiles f f ⊥ ⊥
+leaves_none f = ReadsFiles-leaves f f (ReadsFiles-none f (λ none. none))
+
+-- a file is there where its data is
+pub some_file : (file : Option NewFile) → IsSome (option_map new_file_data file) → IsSome file
+some_file None some = some
+some_file (Some file) some = refl

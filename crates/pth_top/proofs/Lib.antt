@@ -1,5 +1,9 @@
+mod Commands
 mod Endings
+mod Faults
+mod Lines
+mod Listed
 mod Repeats
-mod Results
+mod Replacing
 mod TextSteps
 mod Writes

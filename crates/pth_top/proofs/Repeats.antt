@@ -1,57 +1,117 @@
 -- A list that is refused for a repeated key has one.
-use Rattle.std.proofs.Common.{◌≡◌, ℕ, true, false, cond, List, [], ◌∷◌, length, take, Option, Some, None, IfSome, option_map, refl, ap, ◌∙◌, arith}
-use Rattle.std.specs.Prelude.{IsSomeAnd, nat_lt}
+use Rattle.std.proofs.Common.{◌≡◌, ℕ, true, false, cond, List, [], ◌∷◌, length, take, Option, Some, None, Result, Ok, Err, IfSome, option_map, refl, ap, ◌∙◌, arith}
+use Rattle.std.specs.Prelude.{IsSomeAnd, nat_lt, codes, option_and_then}
 use Rattle.std.specs.FinMap as map
+use Rattle.build_outcome.specs.Index.{IndexData}
 use Rattle.build_outcome.specs.Outcome.{Outcome, repeated, exhausted, built, outcome_of}
 use Rattle.build_outcome.specs.OutcomeLaws.{repeated_key}
+use Rattle.command_words.specs.declared.faults.WordFault.{WordFault}
 use Rattle.command_words.specs.Options.{OptionsData}
+use Rattle.command_words.specs.Words.{CommandData, PilotsOf, BuildOf, QueryOf}
 use Rattle.hem_build.specs.Rules.{rules_of}
+use Rattle.index_file.specs.Encoded.{EncodedIndex}
+use Rattle.index_text.specs.Reading.{index_at}
 use Rattle.pth_outside.specs.Files.{FileMap}
 use Rattle.pth_outside.specs.Keys.{keys_of, first_too_long}
 use Rattle.pth_top.specs.declared.TheConstants.{REPEATED_KEY}
-use Rattle.pth_top.specs.declared.answer.Answer.{Answer}
-use Rattle.pth_top.specs.Done.{Done, done_of}
-use Rattle.pth_top.specs.Pilots.{HasRepeat, pilots_result, keys_result, outcome_result, unless_too_long, too_many_result}
+use Rattle.pth_top.specs.Done.{Done}
+use Rattle.pth_top.specs.Lists.{HasRepeat, and_then, gives, list_in, unless_too_long, too_many_result, index_by, index_for, index_in}
+use Rattle.pth_top.specs.Build.{build_result, index_file_of}
+use Rattle.pth_top.specs.Pilots.{pilots_result, pilots_of_index}
+use Rattle.pth_top.specs.Query.{index_read, unless_faulty, query_result, values_of}
+use Rattle.pth_top.specs.Words.{command_result, with_index, CommandRepeats}
 
 -- an outcome with this status
-of_outcome : (o : OptionsData) (keys : List (List ℕ)) (outcome : Outcome) →
+of_outcome : (o : OptionsData) (keys : List (List ℕ)) (outcome : Outcome) (give : IndexData → Done) → ((x : IndexData) → (give x).status ≡ 0) →
     outcome_of (rules_of o.settings) keys o.settings.seeds ≡ outcome →
-    (outcome_result o.settings.seeds outcome).status ≡ REPEATED_KEY → HasRepeat keys
-of_outcome o keys (repeated i j) is status =
+    (gives (index_by o.settings.seeds outcome) give).status ≡ REPEATED_KEY → HasRepeat keys
+of_outcome o keys (repeated i j) give zero is status =
     record { first = i; second = j; repeat = repeated_key (rules_of o.settings) keys [] o.settings.seeds i j is }
-of_outcome o keys (exhausted causes) is status = absurd (omega arith)
-of_outcome o keys (built x) is status = absurd (omega arith)
+of_outcome o keys (exhausted causes) give zero is status = absurd (omega arith)
+of_outcome o keys (built x) give zero is status = let none : (give x).status ≡ 0 = zero x in absurd (omega arith)
 
 -- a list of keys with this status
-of_keys : (o : OptionsData) (keys : List (List ℕ)) → (keys_result o keys).status ≡ REPEATED_KEY → HasRepeat keys
-unfolding keys_result
-of_keys o [] status = absurd (omega arith)
-of_keys o (key ∷ keys) status =
-    of_outcome o (key ∷ keys) (outcome_of (rules_of o.settings) (key ∷ keys) o.settings.seeds) refl status
+of_keys : (o : OptionsData) (keys : List (List ℕ)) (give : IndexData → Done) → ((x : IndexData) → (give x).status ≡ 0) →
+    (gives (index_for o keys) give).status ≡ REPEATED_KEY → HasRepeat keys
+unfolding index_for
+of_keys o [] give zero status = absurd (omega arith)
+of_keys o (key ∷ keys) give zero status =
+    of_outcome o (key ∷ keys) (outcome_of (rules_of o.settings) (key ∷ keys) o.settings.seeds) give zero refl status
 
 -- lines with this status
-of_lines : (o : OptionsData) (lines : List (List ℕ)) (long : Option ℕ) →
-    (unless_too_long o lines long).status ≡ REPEATED_KEY → HasRepeat lines
-of_lines o lines (Some number) status = absurd (omega arith)
-of_lines o lines None status =
-    elim (nat_lt o.most (length lines)) as (λ b. (cond b (too_many_result o.most) (keys_result o lines)).status ≡ REPEATED_KEY → HasRepeat lines) [
+of_lines : (o : OptionsData) (lines : List (List ℕ)) (long : Option ℕ) (give : IndexData → Done) → ((x : IndexData) → (give x).status ≡ 0) →
+    (gives (and_then (unless_too_long (codes "keys") o.most lines long) (index_for o)) give).status ≡ REPEATED_KEY → HasRepeat lines
+of_lines o lines (Some number) give zero status = absurd (omega arith)
+of_lines o lines None give zero status =
+    let many : Result (List (List ℕ)) Done = Err (too_many_result (codes "keys") o.most) in
+    elim (nat_lt o.most (length lines)) as (λ b.
+    (gives (and_then (cond b many (Ok lines)) (index_for o)) give).status ≡ REPEATED_KEY → HasRepeat lines) [
       | true ↦ λ status. absurd (omega arith)
-      | false ↦ λ status. of_keys o lines status
+      | false ↦ λ status. of_keys o lines give zero status
     ] status
 
--- a file with this status
-of_file : (o : OptionsData) (found : Option (List ℕ)) (d : Done) → option_map (pilots_result o) found ≡ Some d →
-    d.status ≡ REPEATED_KEY → IsSomeAnd found (λ bytes. HasRepeat (keys_of bytes))
-unfolding pilots_result
-of_file o None d is status = absurd cc
-of_file o (Some bytes) d is status =
-    let same : unless_too_long o (keys_of bytes) (first_too_long (take o.most (keys_of bytes))) ≡ d = cc in
-    of_lines o (keys_of bytes) (first_too_long (take o.most (keys_of bytes))) (ap (λ (x : Done). x.status) same ∙ status)
+-- the bytes of a file with this status
+of_bytes : (o : OptionsData) (bytes : List ℕ) (give : IndexData → Done) → ((x : IndexData) → (give x).status ≡ 0) →
+    (gives (index_in o bytes) give).status ≡ REPEATED_KEY → HasRepeat (keys_of bytes)
+unfolding index_in list_in
+of_bytes o bytes give zero status = of_lines o (keys_of bytes) (first_too_long (take o.most (keys_of bytes))) give zero status
 
--- an answer with this status
-pub answer_repeats : (told : Option FileMap) (name : List ℕ) (o : OptionsData) (answer : Answer) →
-    IfSome told (λ m. option_map (pilots_result o) (map.get m name) ≡ Some (done_of answer)) →
-    answer.status ≡ REPEATED_KEY →
-    IfSome told (λ m. IsSomeAnd (map.get m name) (λ bytes. HasRepeat (keys_of bytes)))
-answer_repeats None name o answer is status = tt
-answer_repeats (Some m) name o answer is status = of_file o (map.get m name) (done_of answer) is status
+-- a file with this status
+of_file : (o : OptionsData) (found : Option (List ℕ)) (give : IndexData → Done) (d : Done) → ((x : IndexData) → (give x).status ≡ 0) →
+    option_map (λ bytes. gives (index_in o bytes) give) found ≡ Some d → d.status ≡ REPEATED_KEY →
+    IsSomeAnd found (λ bytes. HasRepeat (keys_of bytes))
+of_file o None give d zero is status = absurd cc
+of_file o (Some bytes) give d zero is status =
+    let same : gives (index_in o bytes) give ≡ d = cc in
+    of_bytes o bytes give zero (ap (λ (x : Done). x.status) same ∙ status)
+
+-- the lines of queries never have this status
+not_of_lines : (lines : List (List ℕ)) (long : Option ℕ) (most : ℕ) (index : EncodedIndex) →
+    (gives (unless_too_long (codes "queries") most lines long) (values_of index.index)).status ≡ REPEATED_KEY → ⊥
+not_of_lines lines (Some number) most index status = omega arith
+not_of_lines lines None most index status =
+    let many : Result (List (List ℕ)) Done = Err (too_many_result (codes "queries") most) in
+    elim (nat_lt most (length lines)) as (λ b.
+    (gives (cond b many (Ok lines)) (values_of index.index)).status ≡ REPEATED_KEY → ⊥) [
+      | true ↦ λ status. omega arith
+      | false ↦ λ status. omega arith
+    ] status
+
+-- nor does a file of queries
+not_of_queries : (index : EncodedIndex) (found : Option (List ℕ)) (d : Done) → option_map (query_result index) found ≡ Some d →
+    d.status ≡ REPEATED_KEY → ⊥
+unfolding list_in
+not_of_queries index None d is status = cc
+not_of_queries index (Some bytes) d is status =
+    let same : query_result index bytes ≡ d = cc in
+    not_of_lines (keys_of bytes) (first_too_long (take 67108864 (keys_of bytes))) 67108864 index (ap (λ (x : Done). x.status) same ∙ status)
+
+-- nor does an index
+not_of_index : (read : Result (IndexData × Rattle.pilot_codecs.specs.declared.code.Encoding.Encoding) Rattle.index_text.specs.declared.fault.IndexFault.IndexFault)
+    (found : Option (List ℕ)) (d : Done) → with_index (unless_faulty read) (λ x. option_map (query_result x) found) ≡ Some d →
+    d.status ≡ REPEATED_KEY → ⊥
+not_of_index (Err fault) found d is status =
+    let same : (Rattle.pth_top.specs.Query.faulty_result fault).status ≡ d.status = cc in omega arith
+not_of_index (Ok read) found d is status = not_of_queries (record { index = read.0; enc = read.1 }) found d is status
+
+-- nor do two files
+not_of_files : (index queries : Option (List ℕ)) (d : Done) →
+    option_and_then (λ bytes. with_index (index_read bytes) (λ x. option_map (query_result x) queries)) index ≡ Some d →
+    d.status ≡ REPEATED_KEY → ⊥
+not_of_files None queries d is status = cc
+not_of_files (Some bytes) queries d is status = not_of_index (index_at bytes) queries d is status
+
+-- a command with this status
+of_command : (command : Result CommandData WordFault) (m : FileMap) (d : Done) → command_result command m ≡ Some d →
+    d.status ≡ REPEATED_KEY → CommandRepeats command m
+of_command (Err fault) m d is status =
+    let same : 1 ≡ d.status = cc in absurd (omega arith)
+of_command (Ok (PilotsOf keys o)) m d is status = of_file o (map.get m keys) pilots_of_index d (λ x. refl) is status
+of_command (Ok (BuildOf keys index o)) m d is status = of_file o (map.get m keys) (index_file_of index o.enc) d (λ x. refl) is status
+of_command (Ok (QueryOf index queries)) m d is status = absurd (not_of_files (map.get m index) (map.get m queries) d is status)
+
+-- a command over files that tell
+pub command_repeats : (command : Result CommandData WordFault) (told : Option FileMap) (d : Done) →
+    IfSome told (λ m. command_result command m ≡ Some d) → d.status ≡ REPEATED_KEY → IfSome told (CommandRepeats command)
+command_repeats command None d is status = tt
+command_repeats command (Some m) d is status = of_command command m d is status

@@ -7,7 +7,7 @@ use Rattle.pth_outside.specs.declared.sink.SinkErr.TheVariants.{Failed, NoMemory
 use Rattle.pth_outside.specs.Sink.{SinkState, written, WritesFront}
 
 -- nothing written is the front of any piece
-written-nothing : (told : Option (List ℕ)) → told ≡ written [] told
+pub written-nothing : (told : Option (List ℕ)) → told ≡ written [] told
 written-nothing None = refl
 written-nothing (Some bytes) = ap Some (sym (append-nil bytes))
 

@@ -1,5 +1,10 @@
+pub mod Statuses
 pub mod Texts
 pub mod Done
+pub mod Lists
 pub mod Pilots
+pub mod Build
+pub mod Query
 pub mod Words
 pub mod Ending
+pub mod Finishing

@@ -2,6 +2,8 @@
 use Rattle.std.specs.Prelude.{ℕ, ◌+◌, ◌==◌, List, [], ◌∷◌, ◌++◌, length, codes, decimal, flat_map, if◌then◌else◌}
 use Rattle.build_outcome.specs.declared.Cause.{Cause}
 use Rattle.build_outcome.specs.declared.Cause.TheVariants.{SameHash, Stuck}
+use Rattle.index_text.specs.declared.fault.IndexFault.{IndexFault}
+use Rattle.index_text.specs.declared.fault.IndexFault.TheVariants as faults
 use Rattle.command_words.specs.declared.kinds.TheConstants.{COMMAND, MISSING, EXTRA, NAME, REPEATED, NUMBER, RANGE}
 
 -- a text with its line feed
@@ -40,9 +42,9 @@ no_keys = codes "no keys\n"
 unfoldable pub too_long : ℕ → List ℕ
 too_long number = line (codes "line " ++ decimal number ++ codes " is too long")
 
--- the key file has more lines than this
-unfoldable pub too_many : ℕ → List ℕ
-too_many most = line (codes "too many keys: limit " ++ decimal most)
+-- the file has more of these than that
+unfoldable pub too_many : List ℕ → ℕ → List ℕ
+too_many what most = line (codes "too many " ++ what ++ codes ": limit " ++ decimal most)
 
 -- two lines, by their numbers from 1, hold the same key
 unfoldable pub repeated_key : ℕ → ℕ → List ℕ
@@ -89,3 +91,33 @@ abbrev pub cause_lines : List ℕ → List Cause → List ℕ
 cause_lines [] causes = []
 cause_lines (seed ∷ seeds) [] = []
 cause_lines (seed ∷ seeds) (cause ∷ causes) = cause_line seed cause ++ cause_lines seeds causes
+
+-- the summary of an index: its keys, its seed, the size of its tables and the length of its file
+unfoldable pub summary : ℕ → ℕ → ℕ → ℕ → List ℕ
+summary keys seed size bytes =
+    line (codes "built keys " ++ decimal keys ++ codes " seed " ++ decimal seed ++ codes " size " ++ decimal size
+    ++ codes " bytes " ++ decimal bytes)
+
+-- two numbers after a word
+unfoldable pub word_of_two : List ℕ → ℕ → ℕ → List ℕ
+word_of_two word first second = word ++ decimal first ++ codes " " ++ decimal second
+
+-- the words for a fault of an index
+unfoldable pub fault_words : IndexFault → List ℕ
+fault_words faults.Short = codes "short"
+fault_words faults.Magic = codes "magic"
+fault_words (faults.Version found) = codes "version " ++ decimal found
+fault_words (faults.Digest kept counted) = word_of_two (codes "digest ") kept counted
+fault_words faults.Encoding = codes "encoding"
+fault_words (faults.Field at) = codes "field " ++ decimal at
+fault_words (faults.Count kept sum) = word_of_two (codes "count ") kept sum
+fault_words (faults.Form fault) = word_of_two (codes "form ") fault.kind fault.at
+fault_words (faults.Pilot part bucket) = word_of_two (codes "pilot ") part bucket
+fault_words (faults.Free part place) = word_of_two (codes "free ") part place
+fault_words (faults.Long at) = codes "long " ++ decimal at
+fault_words faults.Large = codes "large"
+fault_words faults.NoMemory = []
+
+-- an index is refused for a fault
+unfoldable pub index_refused : IndexFault → List ℕ
+index_refused fault = line (codes "index refused: " ++ fault_words fault)

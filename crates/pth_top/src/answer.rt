@@ -1,15 +1,29 @@
 // What a command answers, or why it gave up.
-ghost use Rattle.std.specs.Prelude.{◌≡◌};
+ghost use Rattle.std.specs.Prelude.{◌≡◌, ◌≢◌, ◌≤◌, IsSome};
+ghost use Rattle.pth_top.specs.Statuses.{IsOfCommand};
 ghost use Rattle.pth_top.specs.declared.answer.Stop.TheVariants.{NoMemory as OutOfMemory};
+ghost use Rattle.pth_top.specs.declared.TheConstants.{WORDS_REFUSED, INDEX_REFUSED};
 
 use bucket_map::NoMemory;
 use std::alloc::AllocError;
 
-/// The status and the text of a command that was done.
+/// A file that a command gives.
+#[derive(Drop)]
+pub struct NewFile {
+    pub name: String,
+    pub bytes: Vec<u8>,
+}
+
+/// The status and the text of a command that was done, and a file if it gives one.
 #[derive(Drop)]
 pub struct Answer {
     pub status: u8,
     pub text: String,
+    pub file: Option<NewFile>,
+    pub ghost own: { IsOfCommand status },
+    pub ghost asked: { status ≢ WORDS_REFUSED },
+    pub ghost few: { status ≤ INDEX_REFUSED },
+    pub ghost done: { IsSome file → status ≡ 0 },
 }
 
 /// Why a command was not done.

@@ -2,15 +2,26 @@
 #![tactic(auto)]
 
 mod answer;
+mod build;
+mod finish;
+#[cfg(test)]
+mod index_tests;
+mod lists;
 mod pilots;
+mod query;
+mod read;
+mod summary;
 #[cfg(test)]
 mod tests;
 mod text;
 mod top;
+mod values;
 
 pub use command_words::{Command, Options, WordFault, WordsErr, read_words};
+pub use finish::show_want;
+pub use query::query_command;
 pub use settings::{Code, Encoding, How, Map, Settings, Shape};
-pub use top::{run, show_want};
+pub use top::run;
 
 // The statuses.
 const WORDS_REFUSED: u8 = 1;
@@ -22,6 +33,8 @@ const LIST_REFUSED: u8 = 3;
 const REPEATED_KEY: u8 = 4;
 
 const SEEDS_EXHAUSTED: u8 = 5;
+
+const INDEX_REFUSED: u8 = 6;
 
 const FAILED_OUTPUT: u8 = 8;
 

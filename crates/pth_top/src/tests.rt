@@ -7,7 +7,7 @@ use std::test::Fail;
 use std::thread::Threads;
 
 // The words, each as a text of its own.
-fn texts<R: AllocGlobal>(rt: &R, words: &[&str]) -> Result<Vec<String>, Fail> {
+pub(crate) fn texts<R: AllocGlobal>(rt: &R, words: &[&str]) -> Result<Vec<String>, Fail> {
     let mut all = Vec::new(rt.alloc());
     for word in words {
         all.push(String::from_str(rt.alloc(), word)?)?;
@@ -16,7 +16,7 @@ fn texts<R: AllocGlobal>(rt: &R, words: &[&str]) -> Result<Vec<String>, Fail> {
 }
 
 // A list with this one number.
-fn only<R: AllocGlobal>(rt: &R, number: u64) -> Result<Vec<u64>, Fail> {
+pub(crate) fn only<R: AllocGlobal>(rt: &R, number: u64) -> Result<Vec<u64>, Fail> {
     let mut list = Vec::new(rt.alloc());
     list.push(number)?;
     Ok(list)

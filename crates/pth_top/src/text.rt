@@ -11,7 +11,7 @@ use std::alloc::{AllocError, Global};
 use std::fmt::Write;
 
 // Appends a label and a number in plain decimal.
-fn push_number(text: &mut String, label: &str, number: u64) -> Result<(), AllocError>
+pub(crate) fn push_number(text: &mut String, label: &str, number: u64) -> Result<(), AllocError>
     ensures { OnOk result
         (string_bytes text.new ≡ string_bytes text.old ++ (label.now ++ decimal number)) }
 {
@@ -192,12 +192,13 @@ pub fn too_long_text(alloc: Global, number: u64) -> Result<String, AllocError>
     Ok(text)
 }
 
-/// The refusal of a key file with more lines than this.
-pub fn too_many_text(alloc: Global, most: u64) -> Result<String, AllocError>
-    ensures { IfOk result (λ text. string_bytes text ≡ too_many most) }
+/// The refusal of a file with more of these than that.
+pub fn too_many_text(alloc: Global, what: &str, most: u64) -> Result<String, AllocError>
+    ensures { IfOk result (λ text. string_bytes text ≡ too_many what.now most) }
 {
-    let mut text = String::new(alloc);
-    push_number(&mut text, "too many keys: limit ", most)?;
+    let mut text = String::from_str(alloc, "too many ")?;
+    text.push_str(what)?;
+    push_number(&mut text, ": limit ", most)?;
     text.push_str("\n")?;
     Ok(text)
 }

@@ -1,26 +1,28 @@
 // The top call: from the words to a status, a text and the files.
-ghost use Rattle.std.specs.Prelude.{◌≡◌, ◌≢◌, ◌≤◌, ◌⊎◌, IfOk, IfSome, IsOk, IsErr, IsSomeAnd, IsErrOf, None, length};
+ghost use Rattle.std.specs.Prelude.{◌≡◌, ◌≢◌, Err, IfSome, IsErr, IsSomeAnd, None};
 ghost use Rattle.command_words.specs.declared.faults.WordFault.{WordFault};
 ghost use Rattle.command_words.specs.Options.{words_of};
 ghost use Rattle.command_words.specs.Words.{command_of};
-ghost use Rattle.pth_outside.specs.Files.{LeavesFiles};
-ghost use Rattle.pth_outside.specs.Sink.{LeavesSink, Prints, WritesFront, written};
-ghost use Rattle.pth_top.specs.Done.{Gives, done_of};
-ghost use Rattle.pth_top.specs.Ending.{IsOfCommand, IsStatus, EndsAs, IsCutOff};
+ghost use Rattle.pth_outside.specs.Files.{FilesState, LeavesFiles};
+ghost use Rattle.pth_outside.specs.Sink.{LeavesSink, Prints, WritesFront};
+ghost use Rattle.pth_top.specs.Ending.{Ends, EndsAs, IsCutOff, IsDone, LeavesFor};
+ghost use Rattle.pth_top.specs.Statuses.{IsOfCommand, IsStatus};
 ghost use Rattle.pth_top.specs.Texts.{file_fault, no_memory};
-ghost use Rattle.pth_top.specs.Words.{refused, done, CommandRepeats};
+ghost use Rattle.pth_top.specs.Words.{refused, done, new_file, CommandBuilds, CommandRepeats};
 
-use crate::answer::{Answer, Stop};
-use crate::pilots::pilots;
+use crate::build::build_command;
+use crate::finish::{show, show_want};
+use crate::pilots::pilots_command;
+use crate::query::query_command;
 use crate::text::refused_word_text;
-use crate::{FAILED_OUTPUT, FILE_FAULT, NO_MEMORY, REPEATED_KEY, SEEDS_EXHAUSTED, WORDS_REFUSED};
+use crate::{FAILED_OUTPUT, FILE_FAULT, NO_MEMORY, REPEATED_KEY, WORDS_REFUSED};
 use command_words::{Command, WordFault, WordsErr, read_words};
-use pth_outside::{Files, Sink, SinkErr};
-use std::alloc::{AllocError, Global};
+use pth_outside::{Files, Sink};
+use std::alloc::Global;
 use std::thread::Threads;
 
-/// Does what the words after the program's name ask for, hands the text over to the sink in one piece, and answers the
-/// status.
+/// Does what the words after the program's name ask for, writes the file that it gives, hands the text over to the sink in
+/// one piece, and answers the status.
 pub fn run<R: Threads + Sync, F: Files, O: Sink>(
     rt: &R,
     alloc: Global,
@@ -32,6 +34,10 @@ pub fn run<R: Threads + Sync, F: Files, O: Sink>(
     ensures done { IsOfCommand result → IfSome (F.state files.old).told (λ m.
         IsSomeAnd (done (words_of words.now) m) (λ d. EndsAs d result
         (O.state out.old) (O.state out.new) (F.state files.old).told (F.state files.new).told)) }
+
+    // An index that a build has written is that of the first seed that succeeds, and maps the keys one to one.
+    ensures built { IsDone result → IfSome (F.state files.old).told (λ m.
+        CommandBuilds (command_of (words_of words.now)) m (F.state files.new).told) }
 
     // Words that ask for nothing are refused, whatever the files tell, with no call on them.
     ensures refused { (fault : WordFault) → command_of (words_of words.now) ≡ Err fault →
@@ -46,7 +52,7 @@ pub fn run<R: Threads + Sync, F: Files, O: Sink>(
 
     ensures statuses { IsStatus result }
 
-    // A file fault comes only where the files failed, and over sure files only where the key file is missing.
+    // A file fault comes only where the files failed, and over sure files only where a file that is read is missing.
     ensures files { LeavesFiles (F.state files.old) (F.state files.new) (result ≡ FILE_FAULT)
         (IfSome (F.state files.old).told (λ m. done (words_of words.now) m ≡ None)) }
     ensures fault_text { result ≡ FILE_FAULT →
@@ -62,100 +68,56 @@ pub fn run<R: Threads + Sync, F: Files, O: Sink>(
     ensures memory { result ≡ NO_MEMORY →
         WritesFront no_memory (O.state out.old) (O.state out.new) }
 
-    // No file changes where nothing was done, and none at all where what is done has no file.
+    // No file changes where the command was refused.
     ensures kept { result ≢ 0 → result ≢ FAILED_OUTPUT → result ≢ NO_MEMORY →
-        (F.state files.new).told ≡ (F.state files.old).told }
-    ensures no_file { IfSome (F.state files.old).told (λ m.
-        IfSome (done (words_of words.now) m) (λ d. d.file ≡ None)) →
-        (F.state files.new).told ≡ (F.state files.old).told }
+        result ≢ FILE_FAULT → (F.state files.new).told ≡ (F.state files.old).told }
+    // What becomes of the files: all stay where what is done has no file, else all but its own.
+    ensures names { LeavesFor
+        (new_file (command_of (words_of words.now)) (F.state files.old).told) result
+        (F.state files.old).told (F.state files.new).told }
 {
-    match answer(rt, alloc, words, files) {
-        Ok(answer) => show(out, answer.status, answer.text.as_bytes()),
-        Err(Stop::Fault) => show(out, FILE_FAULT, b"file fault\n"),
-        Err(Stop::NoMemory) => show_want(out),
-    }
+    run_words(rt, alloc, words, files, out)
 }
 
-// What the words ask for.
-fn answer<R: Threads + Sync, F: Files>(
+// The same, with what each command promises in one record.
+fn run_words<R: Threads + Sync, F: Files, O: Sink>(
     rt: &R,
     alloc: Global,
     words: &[String],
     files: &mut F,
-) -> Result<Answer, Stop>
-    ensures done { IfOk result (λ answer. IfSome (F.state files.old).told (λ m.
-        IsSomeAnd (done (words_of words.now) m) (λ d.
-        Gives d answer (F.state files.old).told (F.state files.new).told))) }
-
-    ensures own { IfOk result (λ answer. IsOfCommand answer.status) }
-    ensures statuses { IfOk result (λ answer. answer.status ≤ SEEDS_EXHAUSTED) }
-    ensures repeated { IfOk result (λ answer. answer.status ≡ REPEATED_KEY →
-        IfSome (F.state files.old).told (CommandRepeats (command_of (words_of words.now)))) }
-
+    out: &mut O,
+) -> u8
+    ensures ends { Ends (command_of (words_of words.now)) result
+        (F.state files.old) (F.state files.new) (O.state out.old) (O.state out.new) }
     ensures refused { (fault : WordFault) → command_of (words_of words.now) ≡ Err fault →
-        IfOk result (λ answer. done_of answer ≡ refused fault) }
+        result ≢ NO_MEMORY → EndsAs (refused fault) result
+        (O.state out.old) (O.state out.new) (F.state files.old).told (F.state files.new).told }
     ensures no_call { IsErr (command_of (words_of words.now)) → files.new ≡ files.old }
-    ensures only_refused { IfOk result (λ answer. answer.status ≡ WORDS_REFUSED →
-        IsErr (command_of (words_of words.now))) }
-
-    ensures asked { IsErrOf result Stop.Fault → IsOk (command_of (words_of words.now)) }
-    ensures leaves { LeavesFiles (F.state files.old) (F.state files.new)
-        (IsErrOf result Stop.Fault)
-        (IfSome (F.state files.old).told (λ m. done (words_of words.now) m ≡ None)) }
-    ensures told { (F.state files.new).told ≡ (F.state files.old).told }
 {
     match read_words(alloc, words) {
-        Ok(Command::Pilots { keys, options }) => pilots(rt, alloc, &keys, &options, files),
-        Err(WordsErr::Bad(fault)) => Ok(refusal(alloc, fault)?),
-        Err(WordsErr::NoMemory) => Err(Stop::NoMemory),
+        Ok(Command::Pilots { keys, options }) => {
+            pilots_command(rt, alloc, &keys, &options, files, out)
+        }
+        Ok(Command::Build {
+            keys,
+            index,
+            options,
+        }) => build_command(rt, alloc, &keys, &index, &options, files, out),
+        Ok(Command::Query { index, queries }) => query_command(alloc, &index, &queries, files, out),
+        Err(WordsErr::Bad(fault)) => refuse(alloc, fault, out),
+        Err(WordsErr::NoMemory) => show_want(out),
     }
 }
 
-// The answer to words with a fault.
-fn refusal(alloc: Global, fault: WordFault) -> Result<Answer, AllocError>
-    ensures { IfOk result (λ answer. done_of answer ≡ refused fault) }
+// Refuses words with a fault.
+fn refuse<O: Sink>(alloc: Global, fault: WordFault, out: &mut O) -> u8
+    ensures ends { (files : FilesState) →
+        Ends (Err fault) result files files (O.state out.old) (O.state out.new) }
+    ensures refused { (files : FilesState) → result ≢ NO_MEMORY →
+        EndsAs (refused fault) result (O.state out.old) (O.state out.new) files.told files.told }
 {
-    let text = refused_word_text(alloc, fault)?;
-    Ok(Answer {
-        status: WORDS_REFUSED,
-        text,
-    })
-}
-
-// Hands a text over, and answers its status or that of a sink that failed or had no memory.
-fn show<O: Sink>(out: &mut O, status: u8, text: &[u8]) -> u8
-    requires { status ≤ SEEDS_EXHAUSTED }
-    ensures answers { (result ≡ status) ⊎ ((result ≡ FAILED_OUTPUT) ⊎ (result ≡ NO_MEMORY)) }
-
-    ensures shown { result ≡ status → Prints text.now (O.state out.old) (O.state out.new) }
-    ensures whole { result ≡ 0 →
-        (O.state out.new).told ≡ written text.now (O.state out.old).told }
-    ensures nothing { length text.now ≡ 0 → out.new ≡ out.old }
-
-    ensures done { result ≡ FAILED_OUTPUT → status ≡ 0 }
-    ensures front { result ≡ FAILED_OUTPUT →
-        WritesFront text.now (O.state out.old) (O.state out.new) }
-    ensures memory { result ≡ NO_MEMORY →
-        WritesFront no_memory (O.state out.old) (O.state out.new) }
-    ensures leaves { LeavesSink (O.state out.old) (O.state out.new) (result ≡ FAILED_OUTPUT) }
-{
-    if text.is_empty() {
-        return status;
+    match refused_word_text(alloc, fault) {
+        Ok(text) => show(out, WORDS_REFUSED, text.as_bytes()),
+        Err(_) => show_want(out),
     }
-    match out.write(text) {
-        Ok(()) => status,
-        Err(SinkErr::Failed) if status == 0 => FAILED_OUTPUT,
-        Err(SinkErr::Failed) => status,
-        Err(SinkErr::NoMemory) => show_want(out),
-    }
-}
-
-/// Says that memory ran out, if the sink takes it, and answers the status of that.
-pub fn show_want<O: Sink>(out: &mut O) -> u8
-    ensures status { result ≡ NO_MEMORY }
-    ensures text { WritesFront no_memory (O.state out.old) (O.state out.new) }
-    ensures leaves { LeavesSink (O.state out.old) (O.state out.new) (result ≡ FAILED_OUTPUT) }
-{
-    let _ = out.write(b"no memory\n");
-    NO_MEMORY
 }

@@ -1,6 +1,6 @@
 use Rattle.pth_top.proofs.Writes.{front_of_write}
 use Rattle.pth_top.specs.Texts.{no_memory}
-use Rattle.pth_top.proofs.top.show_want.Goals as goal
+use Rattle.pth_top.proofs.finish.show_want.Goals as goal
 
 pub returns-clause-text : goal.returns-clause-text
 returns-clause-text g c =

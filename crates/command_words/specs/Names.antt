@@ -1,0 +1,15 @@
+-- The names that a build of an index writes under.
+use Rattle.std.specs.Prelude.{ℕ, ◌==◌, ◌&&◌, ◌||◌, Bool, List, ◌++◌, length, drop, eqb, codes, bytes_eq}
+use Rattle.std.specs.List.{starts_with}
+
+-- the name under which an index is written before it has its own
+abbrev pub tmp_of : List ℕ → List ℕ
+tmp_of index = index ++ codes ".tmp"
+
+-- behind the name of an index this makes its own name, the one that it is written under, or that of a part of its build
+abbrev pub follows_index : List ℕ → Bool
+follows_index rest = (length rest == 0) || (bytes_eq rest (codes ".tmp") || starts_with eqb rest (codes ".part"))
+
+-- a name is the index's own, or one that its build may write under
+abbrev pub belongs_to_index : List ℕ → List ℕ → Bool
+belongs_to_index name index = starts_with eqb name index && follows_index (drop (length index) name)
