@@ -104,14 +104,39 @@ fn a_query_of_an_empty_partition_has_no_value(rt: HostRuntime) -> Result<(), Fai
 #[test]
 fn refusals_change_no_file(rt: HostRuntime) -> Result<(), Fail> {
     for (keys, words, status, text) in [
-        (b"".as_slice(), ["build", "K", "I"].as_slice(), 3, "no keys\n"),
-        (b"a\nb\na\n", &["build", "K", "I"], 4, "repeated key: lines 1 and 3\n"),
-        (b"a\nb\n", &["build", "K", "I", "limit=1"], 3, "too many keys: limit 1\n"),
-        (b"\n", &["build", "K", "I", "alpha=49"], 1, "word 3: range\n"),
+        (
+            b"".as_slice(),
+            ["build", "K", "I"].as_slice(),
+            3,
+            "no keys\n",
+        ),
+        (
+            b"a\nb\na\n",
+            &["build", "K", "I"],
+            4,
+            "repeated key: lines 1 and 3\n",
+        ),
+        (
+            b"a\nb\n",
+            &["build", "K", "I", "limit=1"],
+            3,
+            "too many keys: limit 1\n",
+        ),
+        (
+            b"\n",
+            &["build", "K", "I", "alpha=49"],
+            1,
+            "word 3: range\n",
+        ),
         (b"\n", &["build", "I.tmp", "I"], 1, "word 1: same name\n"),
         (b"\n", &["build", "missing", "I"], 2, "file fault\n"),
         (b"\n", &["query", "I", "Q"], 6, "index refused: short\n"),
-        (b"\n", &["query", "I", "missing"], 6, "index refused: short\n"),
+        (
+            b"\n",
+            &["query", "I", "missing"],
+            6,
+            "index refused: short\n",
+        ),
         (b"\n", &["query", "missing", "Q"], 2, "file fault\n"),
     ] {
         let mut files = files_of(&rt, Vec::new(rt.alloc()), keys, b"old", b"x\n")?;
