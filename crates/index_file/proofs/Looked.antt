@@ -1,5 +1,6 @@
 -- The value of a key from what an index keeps.
-use Rattle.std.specs.Prelude.{◌≡◌, ℕ, zero, suc, ◌+◌, ◌*◌, ◌<◌, ◌≤◌, ◌==◌, ◌↔◌, Bool, true, false, cond, List, [], ◌∷◌, length, take, drop}
+use Rattle.std.specs.Prelude.{◌≡◌, ℕ, zero, suc, ◌+◌, ◌*◌, ◌<◌, ◌≤◌, ◌==◌, ◌↔◌, Bool, true}
+use Rattle.std.specs.Prelude.{false, cond, List, [], ◌∷◌, length, take, drop}
 use Rattle.std.specs.Prelude.{Option, Some, None, option_map, sum_by}
 use Rattle.std.proofs.Common.{get_or, refl, sym, ap, ◌∙◌, subst, append_assoc, drop-cons, add-one, arith}
 use Rattle.std.proofs.Math.Nat.{mod-lt}
@@ -129,21 +130,26 @@ pub no_value : (x : IndexData) (key : List ℕ) → (value_of x key ≡ None) �
 unfolding value_of
 no_value x key = by_test (keys == 0) refl
   where
+    -- the partition of the key
     q : ℕ
     q = partition_of (first_hash key x.seed) (second_hash key x.seed) (length x.parts)
 
+    -- how many keys it has
     keys : ℕ
     keys = (part_at x.parts q).n
 
+    -- the value of the position of the key in it
     value : ℕ
     value = position_value keys (part_at x.parts q).free (pair_position x.shape.map x.seed (part_at x.parts q) (first_hash key x.seed) (second_hash key x.seed))
 
+    -- by whether it has no key
     by_test : (t : Bool) → (keys == 0) ≡ t → (option_map (λ v. key_count (take q x.parts) + v) (cond t None (Some value)) ≡ None) ↔ (keys ≡ 0)
     by_test true is = (λ none. eqb-true keys 0 is, λ none. refl)
     by_test false is = (λ none. absurd cc, λ none. absurd (eqb-false keys 0 is none))
 
 -- a sum over the first partitions and those that come
-pub sums_more : (f : PartData → ℕ) (parts : List (Option Lists)) (i total here all : ℕ) → i < length parts → here ≡ f (part_data (get_or parts i None)) →
+pub sums_more : (f : PartData → ℕ) (parts : List (Option Lists)) (i total here all : ℕ) → i < length parts →
+    here ≡ f (part_data (get_or parts i None)) →
     total + sum_by f (parts_data (drop i parts)) ≡ all → (total + here) + sum_by f (parts_data (drop (i + 1) parts)) ≡ all
 sums_more f parts i total here all within is so_far =
     let next : drop i parts ≡ get_or parts i None ∷ drop (i + 1) parts =
