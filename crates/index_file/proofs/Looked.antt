@@ -59,13 +59,13 @@ part_is : (parts : List (Option Lists)) (q : ℕ) (d part : Option Lists) → q 
 part_is parts q d part within is = get_or-map part_data parts q d (record { n = 0; pilots = []; free = [] }) within ∙ ap part_data is
 
 -- the position of a pair in a partition with a key is one of its positions
-position-lt : (lists : Lists) (seed a b : ℕ) → pair_position lists.spread.map seed (lists_data lists) a b < part_size (lists_data lists)
-position-lt lists seed a b = let some = lists.some in mod-lt _ (omega arith)
+position-lt : (lists : Lists) (spread : Map) (seed a b : ℕ) → pair_position spread seed (lists_data lists) a b < part_size (lists_data lists)
+position-lt lists spread seed a b = let some = lists.some in mod-lt _ (omega arith)
 
 -- the value in a partition, behind the partitions before, is below the number of keys
 pub value_fits : (held : Held) (q : ℕ) (d : Option Lists) (lists : Lists) (a b : ℕ) → IsValidIndex (held_data held) → q < length held.parts.items →
     get_or held.parts.items q d ≡ Some lists →
-    key_count (take q (parts_data held.parts.items)) + position_value lists.n lists.free (pair_position lists.spread.map held.seed (lists_data lists) a b)
+    key_count (take q (parts_data held.parts.items)) + position_value lists.n lists.free (pair_position held.shape.map held.seed (lists_data lists) a b)
     < held.n
 value_fits held q d lists a b valid within is =
     let parts = parts_data held.parts.items in
@@ -74,8 +74,8 @@ value_fits held q d lists a b valid within is =
     let shape = (held_data held).shape in
     let here : IsValidPart shape (part_at parts q) = valid.parts q (record { n = 0; pilots = []; free = [] }) inside in
     let good : IsValidPart shape (lists_data lists) = subst (IsValidPart shape) part here in
-    let low = position_value-lt shape (lists_data lists) (pair_position lists.spread.map held.seed (lists_data lists) a b) good
-    (position-lt lists held.seed a b) in
+    let low = position_value-lt shape (lists_data lists) (pair_position held.shape.map held.seed (lists_data lists) a b) good
+    (position-lt lists held.shape.map held.seed a b) in
     let keys : (part_at parts q).n ≡ lists.n = ap (λ (p : PartData). p.n) part in
     omega (arith, key_count-take parts q inside, valid.counted)
 
@@ -99,31 +99,27 @@ value_of-none held key q d place within is =
     ∙ ap (λ (p : PartData). option_map (λ v. key_count (take q parts) + v) (part_value held.shape.map held.seed p a b)) part)
 
 -- a key whose partition has one has the value in it, behind the partitions before
-pub value_of-some : (held : Held) (key : List ℕ) (q : ℕ) (d : Option Lists) (lists : Lists) → IsHeld held →
+pub value_of-some : (held : Held) (key : List ℕ) (q : ℕ) (d : Option Lists) (lists : Lists) →
     q ≡ place_of held key → q < length held.parts.items →
     get_or held.parts.items q d ≡ Some lists →
     Some (key_count (take q (parts_data held.parts.items))
-    + position_value lists.n lists.free (pair_position lists.spread.map held.seed (lists_data lists) (first_hash key held.seed) (second_hash key held.seed)))
+    + position_value lists.n lists.free (pair_position held.shape.map held.seed (lists_data lists) (first_hash key held.seed) (second_hash key held.seed)))
     ≡ value_of (held_data held) key
 unfolding value_of
-value_of-some held key q d lists beside place within is =
+value_of-some held key q d lists place within is =
     let a = first_hash key held.seed in
     let b = second_hash key held.seed in
     let parts = parts_data held.parts.items in
     let count : length parts ≡ length held.parts.items = length-map held.parts.items part_data in
     let there : partition_of a b (length parts) ≡ q = ap (partition_of a b) count ∙ sym place in
     let part : part_at parts q ≡ lists_data lists = part_is held.parts.items q d (Some lists) within is in
-    let under : IsUnder held.shape.map held.enc (Some lists) =
-    subst (IsUnder held.shape.map held.enc) is (beside.under q d within) in
     let some = lists.some in
     let other : lists.n ≡ 0 → ⊥ = λ none. omega arith in
-    let value = λ (m : Map). position_value lists.n lists.free (pair_position m held.seed (lists_data lists) a b) in
-    let here : part_value held.shape.map held.seed (lists_data lists) a b ≡ Some (value held.shape.map) =
-    ap (λ t. cond t None (Some (value held.shape.map))) (ne_eqb lists.n 0 other) in
+    let value = position_value lists.n lists.free (pair_position held.shape.map held.seed (lists_data lists) a b) in
+    let here : part_value held.shape.map held.seed (lists_data lists) a b ≡ Some value = ap (λ t. cond t None (Some value)) (ne_eqb lists.n 0 other) in
     sym (ap (λ (k : ℕ). option_map (λ v. key_count (take k parts) + v) (part_value held.shape.map held.seed (part_at parts k) a b)) there
     ∙ ap (λ (p : PartData). option_map (λ v. key_count (take q parts) + v) (part_value held.shape.map held.seed p a b)) part
-    ∙ ap (option_map (λ v. key_count (take q parts) + v)) here
-    ∙ ap (λ m. Some (key_count (take q parts) + value m)) (sym under.0))
+    ∙ ap (option_map (λ v. key_count (take q parts) + v)) here)
 
 -- a key has no value exactly where its partition has no key
 pub no_value : (x : IndexData) (key : List ℕ) → (value_of x key ≡ None) ↔ (keys_beside x key ≡ 0)

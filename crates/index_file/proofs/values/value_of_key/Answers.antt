@@ -42,6 +42,6 @@ returns-in-Some c =
     let place : q ≡ place_of held c.args.key.now = c.partition_of-q.ensures.value ∙ (λ i. partition_of (h.a i) (h.b i) (count i)) in
     let start = c.index-in-Some.ensures ∙ start_is held q c.index-in-Some.result.now c.requires.beside within in
     let value = c.value_in.ensures
-    ∙ (λ i. position_value lists.n lists.free (pair_position lists.spread.map held.seed (lists_data lists) (h.a i) (h.b i))) in
-    (λ i. Some (start i + value i)) ∙ value_of-some held c.args.key.now q c.index.result.now lists c.requires.beside place within
+    ∙ (λ i. position_value lists.n lists.free (pair_position held.shape.map held.seed (lists_data lists) (h.a i) (h.b i))) in
+    (λ i. Some (start i + value i)) ∙ value_of-some held c.args.key.now q c.index.result.now lists place within
     (sym c.index.ensures ∙ c.in-Some.is)
