@@ -36,6 +36,6 @@ pub(crate) fn value_of_key(held: &Held, key: &[u8]) -> Option<u64>
     let q = partition_of(pair.a, pair.b, held.parts.len() as u32) as usize;
     match &held.parts[q] {
         None => None,
-        Some(lists) => Some(held.starts[q] + value_in(lists, held.shape.map, pair, held.seed)),
+        Some(lists) => Some(held.starts[q] + value_in(&**lists, held.shape.map, pair, held.seed)),
     }
 }
