@@ -1,4 +1,5 @@
 pub mod Totals
+pub mod Spreading
 pub mod Counting
 pub mod Faults
 pub mod ListSteps

@@ -1,6 +1,5 @@
 -- The value of a key from what an index keeps.
-use Rattle.std.specs.Prelude.{Box, ◌≡◌, ℕ, zero, suc, ◌+◌, ◌*◌, ◌<◌, ◌≤◌, ◌==◌, ◌↔◌, Bool, true}
-use Rattle.std.specs.declared.alloc.Global.{Global}
+use Rattle.std.specs.Prelude.{◌≡◌, ℕ, zero, suc, ◌+◌, ◌*◌, ◌<◌, ◌≤◌, ◌==◌, ◌↔◌, Bool, true}
 use Rattle.std.specs.Prelude.{false, cond, List, [], ◌∷◌, length, take, drop}
 use Rattle.std.specs.Prelude.{Option, Some, None, option_map, sum_by}
 use Rattle.std.proofs.Common.{get_or, refl, sym, ap, ◌∙◌, subst, append_assoc, drop-cons, add-one, arith}
@@ -55,31 +54,28 @@ start_is held q d beside within =
     ∙ Rattle.std.proofs.Common.zero-add (key_count (take q parts))
 
 -- a partition that is kept
-part_is : (parts : List (Option (Box Lists Global))) (q : ℕ) (d part : Option (Box Lists Global)) → q < length parts → get_or parts q d ≡ part →
+part_is : (parts : List (Option Lists)) (q : ℕ) (d part : Option Lists) → q < length parts → get_or parts q d ≡ part →
     part_at (parts_data parts) q ≡ part_data part
 part_is parts q d part within is = get_or-map part_data parts q d (record { n = 0; pilots = []; free = [] }) within ∙ ap part_data is
 
 -- the position of a pair in a partition with a key is one of its positions
-position-lt : (lists : Lists) (spread : Map) (seed a b : ℕ) → pair_position spread seed (lists_data lists) a b < part_size (lists_data lists)
-position-lt lists spread seed a b = let some = lists.some in mod-lt _ (omega arith)
+position-lt : (lists : Lists) (seed a b : ℕ) → pair_position lists.spread.map seed (lists_data lists) a b < part_size (lists_data lists)
+position-lt lists seed a b = let some = lists.some in mod-lt _ (omega arith)
 
 -- the value in a partition, behind the partitions before, is below the number of keys
-pub value_fits : (held : Held) (q : ℕ) (d : Option (Box Lists Global)) (boxed : Box Lists Global) (a b : ℕ) → IsValidIndex (held_data held) →
-    q < length held.parts.items →
-    get_or held.parts.items q d ≡ Some boxed →
-    key_count (take q (parts_data held.parts.items))
-    + position_value boxed.value.n boxed.value.free (pair_position held.shape.map held.seed (lists_data boxed.value) a b)
+pub value_fits : (held : Held) (q : ℕ) (d : Option Lists) (lists : Lists) (a b : ℕ) → IsValidIndex (held_data held) → q < length held.parts.items →
+    get_or held.parts.items q d ≡ Some lists →
+    key_count (take q (parts_data held.parts.items)) + position_value lists.n lists.free (pair_position lists.spread.map held.seed (lists_data lists) a b)
     < held.n
-value_fits held q d boxed a b valid within is =
-    let lists : Lists = boxed.value in
+value_fits held q d lists a b valid within is =
     let parts = parts_data held.parts.items in
     let inside : q < length parts = omega (arith, length-map held.parts.items part_data) in
-    let part = part_is held.parts.items q d (Some boxed) within is in
+    let part = part_is held.parts.items q d (Some lists) within is in
     let shape = (held_data held).shape in
     let here : IsValidPart shape (part_at parts q) = valid.parts q (record { n = 0; pilots = []; free = [] }) inside in
     let good : IsValidPart shape (lists_data lists) = subst (IsValidPart shape) part here in
-    let low = position_value-lt shape (lists_data lists) (pair_position held.shape.map held.seed (lists_data lists) a b) good
-    (position-lt lists held.shape.map held.seed a b) in
+    let low = position_value-lt shape (lists_data lists) (pair_position lists.spread.map held.seed (lists_data lists) a b) good
+    (position-lt lists held.seed a b) in
     let keys : (part_at parts q).n ≡ lists.n = ap (λ (p : PartData). p.n) part in
     omega (arith, key_count-take parts q inside, valid.counted)
 
@@ -88,7 +84,7 @@ abbrev pub place_of : Held → List ℕ → ℕ
 place_of held key = partition_of (first_hash key held.seed) (second_hash key held.seed) (length held.parts.items)
 
 -- a key whose partition has none has no value
-pub value_of-none : (held : Held) (key : List ℕ) (q : ℕ) (d : Option (Box Lists Global)) → q ≡ place_of held key → q < length held.parts.items →
+pub value_of-none : (held : Held) (key : List ℕ) (q : ℕ) (d : Option Lists) → q ≡ place_of held key → q < length held.parts.items →
     get_or held.parts.items q d ≡ None →
     None ≡ value_of (held_data held) key
 unfolding value_of
@@ -103,29 +99,31 @@ value_of-none held key q d place within is =
     ∙ ap (λ (p : PartData). option_map (λ v. key_count (take q parts) + v) (part_value held.shape.map held.seed p a b)) part)
 
 -- a key whose partition has one has the value in it, behind the partitions before
-pub value_of-some : (held : Held) (key : List ℕ) (q : ℕ) (d : Option (Box Lists Global)) (boxed : Box Lists Global) →
+pub value_of-some : (held : Held) (key : List ℕ) (q : ℕ) (d : Option Lists) (lists : Lists) → IsHeld held →
     q ≡ place_of held key → q < length held.parts.items →
-    get_or held.parts.items q d ≡ Some boxed →
+    get_or held.parts.items q d ≡ Some lists →
     Some (key_count (take q (parts_data held.parts.items))
-    + position_value boxed.value.n boxed.value.free
-    (pair_position held.shape.map held.seed (lists_data boxed.value) (first_hash key held.seed) (second_hash key held.seed)))
+    + position_value lists.n lists.free (pair_position lists.spread.map held.seed (lists_data lists) (first_hash key held.seed) (second_hash key held.seed)))
     ≡ value_of (held_data held) key
 unfolding value_of
-value_of-some held key q d boxed place within is =
-    let lists : Lists = boxed.value in
+value_of-some held key q d lists beside place within is =
     let a = first_hash key held.seed in
     let b = second_hash key held.seed in
     let parts = parts_data held.parts.items in
     let count : length parts ≡ length held.parts.items = length-map held.parts.items part_data in
     let there : partition_of a b (length parts) ≡ q = ap (partition_of a b) count ∙ sym place in
-    let part : part_at parts q ≡ lists_data lists = part_is held.parts.items q d (Some boxed) within is in
+    let part : part_at parts q ≡ lists_data lists = part_is held.parts.items q d (Some lists) within is in
+    let under : IsUnder held.shape.map held.enc (Some lists) =
+    subst (IsUnder held.shape.map held.enc) is (beside.under q d within) in
     let some = lists.some in
     let other : lists.n ≡ 0 → ⊥ = λ none. omega arith in
-    let value = position_value lists.n lists.free (pair_position held.shape.map held.seed (lists_data lists) a b) in
-    let here : part_value held.shape.map held.seed (lists_data lists) a b ≡ Some value = ap (λ t. cond t None (Some value)) (ne_eqb lists.n 0 other) in
+    let value = λ (m : Map). position_value lists.n lists.free (pair_position m held.seed (lists_data lists) a b) in
+    let here : part_value held.shape.map held.seed (lists_data lists) a b ≡ Some (value held.shape.map) =
+    ap (λ t. cond t None (Some (value held.shape.map))) (ne_eqb lists.n 0 other) in
     sym (ap (λ (k : ℕ). option_map (λ v. key_count (take k parts) + v) (part_value held.shape.map held.seed (part_at parts k) a b)) there
     ∙ ap (λ (p : PartData). option_map (λ v. key_count (take q parts) + v) (part_value held.shape.map held.seed p a b)) part
-    ∙ ap (option_map (λ v. key_count (take q parts) + v)) here)
+    ∙ ap (option_map (λ v. key_count (take q parts) + v)) here
+    ∙ ap (λ m. Some (key_count (take q parts) + value m)) (sym under.0))
 
 -- a key has no value exactly where its partition has no key
 pub no_value : (x : IndexData) (key : List ℕ) → (value_of x key ≡ None) ↔ (keys_beside x key ≡ 0)
@@ -150,26 +148,26 @@ no_value x key = by_test (keys == 0) refl
     by_test false is = (λ none. absurd cc, λ none. absurd (eqb-false keys 0 is none))
 
 -- a sum over the first partitions and those that come
-pub sums_more : (f : PartData → ℕ) (parts : List (Option (Box Lists Global))) (i total here all : ℕ) → i < length parts →
+pub sums_more : (f : PartData → ℕ) (parts : List (Option Lists)) (i total here all : ℕ) → i < length parts →
     here ≡ f (part_data (get_or parts i None)) →
     total + sum_by f (parts_data (drop i parts)) ≡ all → (total + here) + sum_by f (parts_data (drop (i + 1) parts)) ≡ all
 sums_more f parts i total here all within is so_far =
     let next : drop i parts ≡ get_or parts i None ∷ drop (i + 1) parts =
     drop-cons parts i None within ∙ ap (λ (k : ℕ). get_or parts i None ∷ drop k parts) (sym (add-one i)) in
-    let sums = ap (λ (ps : List (Option (Box Lists Global))). sum_by f (parts_data ps)) next in
+    let sums = ap (λ (ps : List (Option Lists)). sum_by f (parts_data ps)) next in
     omega (arith, sum_by-cons f (part_data (get_or parts i None)) (parts_data (drop (i + 1) parts)))
 
 -- all partitions
-pub sums_all : (f : PartData → ℕ) (parts : List (Option (Box Lists Global))) (i total all : ℕ) → length parts ≤ i →
+pub sums_all : (f : PartData → ℕ) (parts : List (Option Lists)) (i total all : ℕ) → length parts ≤ i →
     total + sum_by f (parts_data (drop i parts)) ≡ all → total ≡ all
 sums_all f parts i total all past so_far =
     let none : drop i parts ≡ [] = Rattle.std.proofs.lemmas.List.nil_from_length (drop i parts)
     (omega (arith, Rattle.std.proofs.lemmas.List.length-drop i parts)) in
-    let sums = ap (λ (ps : List (Option (Box Lists Global))). sum_by f (parts_data ps)) none in
+    let sums = ap (λ (ps : List (Option Lists)). sum_by f (parts_data ps)) none in
     omega arith
 
 -- the sums over the first i partitions
-pub record AreSums (parts : List (Option (Box Lists Global))) (i size buckets free : ℕ) : Type 0 where
+pub record AreSums (parts : List (Option Lists)) (i size buckets free : ℕ) : Type 0 where
   pub positions : size + sum_by part_size (parts_data (drop i parts)) ≡ sum_by part_size (parts_data parts)
   pub pilots : buckets + sum_by (λ p. length p.pilots) (parts_data (drop i parts)) ≡ sum_by (λ p. length p.pilots) (parts_data parts)
   pub entries : free + sum_by (λ p. length p.free) (parts_data (drop i parts)) ≡ sum_by (λ p. length p.free) (parts_data parts)

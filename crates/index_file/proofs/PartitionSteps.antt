@@ -1,6 +1,5 @@
 -- The partitions that were read and those that come.
-use Rattle.std.specs.Prelude.{Box, ◌≡◌, ℕ, ◌+◌, ◌<◌, ◌≤◌, List, [], ◌∷◌, ◌++◌, length, drop, All, Option, Result, Ok, Err}
-use Rattle.std.specs.declared.alloc.Global.{Global}
+use Rattle.std.specs.Prelude.{◌≡◌, ℕ, ◌+◌, ◌<◌, ◌≤◌, List, [], ◌∷◌, ◌++◌, length, drop, All, Option, Result, Ok, Err}
 use Rattle.std.proofs.Common.{get_or, refl, sym, ap, ◌∙◌, subst, append_assoc, append-nil, drop-cons, add-one, arith}
 use Rattle.std.proofs.lemmas.List.{nil_from_length, length-drop, map-append}
 use Rattle.std.proofs.lemmas.List.Elements.{All-nil, All-push}
@@ -27,12 +26,12 @@ before_more parts part (Ok more) = ap (λ (ps : List PartData). Ok (ps, more.1))
 before_more parts part (Err e) = refl
 
 -- the first i partitions were read up to a place
-pub record ArePartitions (bytes : List ℕ) (enc : Encoding) (shape : ShapeData) (counts : List ℕ) (at i : ℕ) (parts : List (Option (Box Lists Global)))
+pub record ArePartitions (bytes : List ℕ) (enc : Encoding) (shape : ShapeData) (counts : List ℕ) (at i : ℕ) (parts : List (Option Lists))
     (place : ℕ) : Type 0 where
   pub read : partitions_at (length bytes) enc shape 0 counts (drop at bytes)
       ≡ before (parts_data parts) (partitions_at (length bytes) enc shape i (drop i counts) (drop place bytes))
   pub within : place ≤ length bytes
-  pub under : All (IsUnder enc) parts
+  pub under : All (IsUnder shape.map enc) parts
 
 -- before any partition
 pub partitions_first : (bytes : List ℕ) (enc : Encoding) (shape : ShapeData) (counts : List ℕ) (at : ℕ) → at ≤ length bytes →
@@ -40,7 +39,7 @@ pub partitions_first : (bytes : List ℕ) (enc : Encoding) (shape : ShapeData) (
 partitions_first bytes enc shape counts at within = record {
   read = same (partitions_at (length bytes) enc shape 0 counts (drop at bytes));
   within = within;
-  under = All-nil (IsUnder enc);
+  under = All-nil (IsUnder shape.map enc);
 }
   where
     same : (r : Result (List PartData × List ℕ) IndexFault) → r ≡ before [] r
@@ -58,11 +57,10 @@ next_partition bytes enc shape counts i place within =
     (drop-cons counts i 0 within ∙ ap (λ (k : ℕ). get_or counts i 0 ∷ drop k counts) (sym (add-one i)))
 
 -- one partition more
-pub partitions_more : (bytes : List ℕ) (enc : Encoding) (shape : ShapeData) (counts : List ℕ) (at i : ℕ)
-    (parts : List (Option (Box Lists Global))) (place : ℕ)
-    (lists : Option (Box Lists Global)) (next : ℕ) → i < length counts → ArePartitions bytes enc shape counts at i parts place →
+pub partitions_more : (bytes : List ℕ) (enc : Encoding) (shape : ShapeData) (counts : List ℕ) (at i : ℕ) (parts : List (Option Lists)) (place : ℕ)
+    (lists : Option Lists) (next : ℕ) → i < length counts → ArePartitions bytes enc shape counts at i parts place →
     partition_at (length bytes) enc shape i (get_or counts i 0) (drop place bytes) ≡ Ok (part_data lists, drop next bytes) → next ≤ length bytes →
-    IsUnder enc lists → ArePartitions bytes enc shape counts at (i + 1) (parts ++ lists ∷ []) next
+    IsUnder shape.map enc lists → ArePartitions bytes enc shape counts at (i + 1) (parts ++ lists ∷ []) next
 partitions_more bytes enc shape counts at i parts place lists next more so_far read within under =
     let rest = partitions_at (length bytes) enc shape (i + 1) (drop (i + 1) counts) (drop next bytes) in
     let step : partitions_at (length bytes) enc shape i (drop i counts) (drop place bytes) ≡
@@ -74,12 +72,11 @@ partitions_more bytes enc shape counts at i parts place lists next more so_far r
       read = so_far.read ∙ ap (before (parts_data parts)) step ∙ before_more (parts_data parts) (part_data lists) rest
           ∙ ap (λ (ps : List PartData). before ps rest) (sym (map-append part_data parts (lists ∷ [])));
       within = within;
-      under = All-push (IsUnder enc) parts lists so_far.under under;
+      under = All-push (IsUnder shape.map enc) parts lists so_far.under under;
     }
 
 -- a fault of the next partition is the fault of all
-pub partitions_err : (bytes : List ℕ) (enc : Encoding) (shape : ShapeData) (counts : List ℕ) (at i : ℕ)
-    (parts : List (Option (Box Lists Global))) (place : ℕ)
+pub partitions_err : (bytes : List ℕ) (enc : Encoding) (shape : ShapeData) (counts : List ℕ) (at i : ℕ) (parts : List (Option Lists)) (place : ℕ)
     (e : IndexFault) → i < length counts → ArePartitions bytes enc shape counts at i parts place →
     Fails e (partition_at (length bytes) enc shape i (get_or counts i 0) (drop place bytes)) →
     Fails e (partitions_at (length bytes) enc shape 0 counts (drop at bytes))
@@ -89,8 +86,7 @@ partitions_err bytes enc shape counts at i parts place e more so_far fails =
     >>= λ others. Ok (first.0 ∷ others.0, others.1))) (λ d. refl) fails)
 
 -- all partitions
-pub partitions_all : (bytes : List ℕ) (enc : Encoding) (shape : ShapeData) (counts : List ℕ) (at i : ℕ)
-    (parts : List (Option (Box Lists Global))) (place : ℕ) →
+pub partitions_all : (bytes : List ℕ) (enc : Encoding) (shape : ShapeData) (counts : List ℕ) (at i : ℕ) (parts : List (Option Lists)) (place : ℕ) →
     length counts ≤ i → ArePartitions bytes enc shape counts at i parts place →
     partitions_at (length bytes) enc shape 0 counts (drop at bytes) ≡ Ok (parts_data parts, drop place bytes)
 unfolding partitions_at

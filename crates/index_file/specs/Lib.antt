@@ -1,3 +1,4 @@
+pub mod Spread
 pub mod Lists
 pub mod Starts
 pub mod Encoded

@@ -1,6 +1,5 @@
 -- The lists of a partition as plain data.
-use Rattle.std.specs.Prelude.{Box, [], Option, Some, None}
-use Rattle.std.specs.declared.alloc.Global.{Global}
+use Rattle.std.specs.Prelude.{[], Option, Some, None}
 use Rattle.build_outcome.specs.Index.{PartData}
 use Rattle.index_file.specs.declared.lists.Lists.{Lists}
 
@@ -9,6 +8,6 @@ abbrev pub lists_data : Lists → PartData
 lists_data lists = record { n = lists.n; pilots = lists.pilots.values; free = lists.free }
 
 -- a partition that has a key, or the one that has none
-abbrev pub part_data : Option (Box Lists Global) → PartData
+abbrev pub part_data : Option Lists → PartData
 part_data None = record { n = 0; pilots = []; free = [] }
-part_data (Some lists) = lists_data lists.value
+part_data (Some lists) = lists_data lists

@@ -9,6 +9,7 @@ mod index;
 mod lists;
 mod partitions;
 mod reading;
+mod spread;
 mod values;
 mod writing;
 

@@ -9,7 +9,8 @@ ghost use Rattle.index_file.specs.Lists.{part_data};
 ghost use Rattle.index_file.specs.Held.{parts_data, IsUnder};
 
 use crate::lists::Lists;
-use bucket_map::{BucketDivisors, MAX_PILOTS, Shape, bucket_count, table_size};
+use crate::spread::Spread;
+use bucket_map::{MAX_PILOTS, Shape, bucket_count, table_size};
 use divisor::Divisor;
 use elias_fano::EliasFano;
 use index_text::IndexFault;
@@ -83,12 +84,12 @@ fn lists_of(
     shape: Shape,
     number: u32,
     n: u64,
-) -> Result<(Option<Box<Lists>>, usize), IndexFault>
+) -> Result<(Option<Lists>, usize), IndexFault>
     requires within { at ≤ length bytes.now }
     requires few { n ≤ MAX_KEYS }
     ensures value { Gives (λ x. (part_data x.0, drop x.1 bytes.now)) result
         (partition_at (length bytes.now) enc (shape_data shape) number n (drop at bytes.now)) }
-    ensures under { IfOk result (λ x. IsUnder enc x.0) }
+    ensures under { IfOk result (λ x. IsUnder shape.map enc x.0) }
     ensures within { IfOk result (λ x. x.1 ≤ length bytes.now) }
 {
     if n == 0 {
@@ -102,10 +103,10 @@ fn lists_of(
         n,
         pilots,
         free,
-        buckets: BucketDivisors::new(buckets),
+        spread: Spread::new(shape.map, buckets),
         size: Divisor::new(size),
     };
-    Ok((Some(Box::new(alloc, lists)?), at))
+    Ok((Some(lists), at))
 }
 
 // The partitions that have so many keys each, and the place after them.
@@ -116,13 +117,13 @@ pub(crate) fn partitions_of(
     enc: Encoding,
     shape: Shape,
     counts: &[u64],
-) -> Result<(Vec<Option<Box<Lists>>>, usize), IndexFault>
+) -> Result<(Vec<Option<Lists>>, usize), IndexFault>
     requires within { at ≤ length bytes.now }
     requires few { length counts.now ≤ 2 ^ 20 }
     requires small { below_len (MAX_KEYS + 1) counts.now ≡ length counts.now }
     ensures value { Gives (λ x. (parts_data x.0.items, drop x.1 bytes.now)) result
         (partitions_at (length bytes.now) enc (shape_data shape) 0 counts.now (drop at bytes.now)) }
-    ensures under { IfOk result (λ x. All (IsUnder enc) x.0.items) }
+    ensures under { IfOk result (λ x. All (IsUnder shape.map enc) x.0.items) }
     ensures within { IfOk result (λ x. x.1 ≤ length bytes.now) }
 {
     let mut parts = Vec::new(alloc);
