@@ -3,7 +3,7 @@ use Rattle.std.specs.Prelude.{None, IfSome, ◌↔◌}
 use Rattle.build_outcome.specs.ValidValueLaws.{value_of-lt}
 use Rattle.index_file.specs.Encoded.{keys_beside}
 use Rattle.index_file.specs.Held.{held_data}
-use Rattle.index_file.proofs.Looked.{no_value}
+use Rattle.index_file.proofs.PairValues.{no_value}
 use Rattle.index_file.proofs.index.Index.lookup.Goals as goal
 
 pub returns-clause-none : goal.returns-clause-none
