@@ -37,7 +37,8 @@ pub AreWords-within : (bytes : List ℕ) (at parts : ℕ) (words : List ℕ) →
 AreWords-within bytes at parts words w = omega (arith, AreWords-long bytes at parts words w, length-drop at bytes, w.within)
 
 -- words that were appended to none
-pub words_read : (bytes : List ℕ) (at parts : ℕ) (new old : List ℕ) → at ≤ length bytes → 8 * parts ≤ length (slice_from bytes at) → old ≡ [] →
+pub words_read : (bytes : List ℕ) (at parts : ℕ) (new old : List ℕ) → at ≤ length bytes → 8 * parts ≤ length (slice_from bytes at) →
+    old ≡ [] →
     new ≡ old ++ words_in parts (slice_from bytes at) → AreWords bytes at parts new
 words_read bytes at parts new old within long none read = record {
   within = within;
@@ -46,7 +47,8 @@ words_read bytes at parts new old within long none read = record {
 }
 
 -- a number of keys that is too great
-pub counts_at-field : (n parts few : ℕ) (bytes : List ℕ) (at : ℕ) (words : List ℕ) → AreWords bytes at parts words → few ≡ below_len 67108865 words →
+pub counts_at-field : (n parts few : ℕ) (bytes : List ℕ) (at : ℕ) (words : List ℕ) → AreWords bytes at parts words →
+    few ≡ below_len 67108865 words →
     few < parts → counts_at (length bytes) n parts (drop at bytes) ≡ Err (faults.Field (at + 8 * few))
 unfolding counts_at
 counts_at-field n parts few bytes at words w is low =
@@ -62,7 +64,8 @@ pub AreWords-small : (bytes : List ℕ) (at parts few : ℕ) (words : List ℕ) 
 AreWords-small bytes at parts few words w is high = omega (arith, AreWords-length bytes at parts words w, below_len-most 67108865 words)
 
 -- a sum that is another
-pub counts_at-sum : (n parts few : ℕ) (bytes : List ℕ) (at : ℕ) (words : List ℕ) → AreWords bytes at parts words → few ≡ below_len 67108865 words →
+pub counts_at-sum : (n parts few : ℕ) (bytes : List ℕ) (at : ℕ) (words : List ℕ) → AreWords bytes at parts words →
+    few ≡ below_len 67108865 words →
     parts ≤ few → (sum words ≡ n → ⊥) → counts_at (length bytes) n parts (drop at bytes) ≡ Err (faults.Count n (sum words))
 unfolding counts_at
 counts_at-sum n parts few bytes at words w is high other =
@@ -78,7 +81,8 @@ counts_at-sum n parts few bytes at words w is high other =
     ) (ap (λ (ks : List ℕ). Err (faults.Count n (sum ks))) (sym w.are))
 
 -- numbers of keys without a fault
-pub counts_at-ok : (n parts few : ℕ) (bytes : List ℕ) (at : ℕ) (words : List ℕ) → AreWords bytes at parts words → few ≡ below_len 67108865 words →
+pub counts_at-ok : (n parts few : ℕ) (bytes : List ℕ) (at : ℕ) (words : List ℕ) → AreWords bytes at parts words →
+    few ≡ below_len 67108865 words →
     parts ≤ few → sum words ≡ n → counts_at (length bytes) n parts (drop at bytes) ≡ Ok (words, drop (at + 8 * parts) bytes)
 unfolding counts_at
 counts_at-ok n parts few bytes at words w is high adds =

@@ -35,7 +35,8 @@ pilots_by : (bytes : List ℕ) (enc : Encoding) (number buckets at : ℕ) → at
     ≡ (formed (pair_at enc at buckets (drop at bytes)) >>= all_below 4294967295 (λ bucket. faults.Pilot number bucket))
 unfolding pilots_at
 pilots_by bytes enc number buckets at within =
-    ap (λ (k : ℕ). formed (pair_at enc k buckets (drop at bytes)) >>= all_below 4294967295 (λ bucket. faults.Pilot number bucket)) (place_is bytes at within)
+    ap (λ (k : ℕ). formed (pair_at enc k buckets (drop at bytes)) >>= all_below 4294967295 (λ bucket. faults.Pilot number bucket))
+    (place_is bytes at within)
 
 -- pilots whose list has a fault
 pub pilots_err : (bytes : List ℕ) (enc : Encoding) (number buckets at : ℕ) (e : ReadErr) → at ≤ length bytes →
@@ -71,7 +72,8 @@ free_by bytes number n size at within =
     ap (λ (k : ℕ). formed (lists.list_at k (size - n) (drop at bytes)) >>= all_below n (λ place. faults.Free number place)) (place_is bytes at within)
 
 -- a free list with a fault
-pub free_err : (bytes : List ℕ) (number n size at : ℕ) (e : ReadErr) → at ≤ length bytes → lists.Fails e (lists.list_at at (size - n) (drop at bytes)) →
+pub free_err : (bytes : List ℕ) (number n size at : ℕ) (e : ReadErr) → at ≤ length bytes →
+    lists.Fails e (lists.list_at at (size - n) (drop at bytes)) →
     Fails (fault_of_list e) (free_at (length bytes) number n size (drop at bytes))
 free_err bytes number n size at e within fails =
     subst (Fails (fault_of_list e)) (sym (free_by bytes number n size at within))

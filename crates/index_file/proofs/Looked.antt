@@ -1,25 +1,21 @@
 -- The value of a key from what an index keeps.
-use Rattle.std.specs.Prelude.{◌≡◌, ℕ, zero, suc, ◌+◌, ◌*◌, ◌<◌, ◌≤◌, ◌==◌, ◌↔◌, Bool, true, false, cond, List, [], ◌∷◌, length, take, drop}
-use Rattle.std.specs.Prelude.{Option, Some, None, option_map, sum_by}
-use Rattle.std.proofs.Common.{get_or, refl, sym, ap, ◌∙◌, subst, append_assoc, drop-cons, add-one, arith}
+use Rattle.std.specs.Prelude.{◌≡◌, ℕ, zero, suc, ◌+◌, ◌*◌, ◌<◌, ◌≤◌}
+use Rattle.std.specs.Prelude.{List, [], ◌∷◌, length, take, drop}
+use Rattle.std.specs.Prelude.{Option, Some, None, sum_by}
+use Rattle.std.proofs.Common.{get_or, refl, sym, ap, ◌∙◌, subst, drop-cons, add-one, arith}
 use Rattle.std.proofs.Math.Nat.{mod-lt}
-use Rattle.std.proofs.lemmas.Bool.{ne_eqb, eqb-true, eqb-false}
 use Rattle.std.proofs.lemmas.List.{length-map, get_or-map}
 use Rattle.std.proofs.lemmas.List.Sums.{sum_by-cons}
-use Rattle.pthash.specs.declared.Map.{Map}
-use Rattle.pthash.specs.Hash.{first_hash, second_hash}
-use Rattle.pthash.specs.Sizes.{partition_of}
-use Rattle.build_outcome.specs.Index.{PartData, IndexData}
-use Rattle.build_outcome.specs.Values.{part_size, position_value, pair_position, part_value, part_at, key_count, value_of}
+use Rattle.build_outcome.specs.Index.{PartData}
+use Rattle.build_outcome.specs.Values.{part_size, position_value, pair_position, part_at, key_count}
 use Rattle.build_outcome.specs.ValidValueLaws.{position_value-lt, key_count-take}
 use Rattle.build_outcome.specs.Validity.{IsValidPart, IsValidIndex}
 use Rattle.index_text.specs.Text.{key_counts}
 use Rattle.index_text.proofs.CallerLemmas.{length-key_counts}
 use Rattle.index_file.specs.declared.lists.Lists.{Lists}
 use Rattle.index_file.specs.declared.held.Held.{Held}
-use Rattle.index_file.specs.Encoded.{keys_beside}
 use Rattle.index_file.specs.Lists.{lists_data, part_data}
-use Rattle.index_file.specs.Held.{parts_data, held_data, IsHeld, IsUnder}
+use Rattle.index_file.specs.Held.{parts_data, held_data, IsHeld}
 use Rattle.index_file.specs.Starts.{starts_from}
 
 -- the sums before the partitions
@@ -78,72 +74,9 @@ value_fits held q d lists a b valid within is =
     let keys : (part_at parts q).n ≡ lists.n = ap (λ (p : PartData). p.n) part in
     omega (arith, key_count-take parts q inside, valid.counted)
 
--- the partition of a key
-abbrev pub place_of : Held → List ℕ → ℕ
-place_of held key = partition_of (first_hash key held.seed) (second_hash key held.seed) (length held.parts.items)
-
--- a key whose partition has none has no value
-pub value_of-none : (held : Held) (key : List ℕ) (q : ℕ) (d : Option Lists) → q ≡ place_of held key → q < length held.parts.items →
-    get_or held.parts.items q d ≡ None →
-    None ≡ value_of (held_data held) key
-unfolding value_of
-value_of-none held key q d place within is =
-    let a = first_hash key held.seed in
-    let b = second_hash key held.seed in
-    let parts = parts_data held.parts.items in
-    let count : length parts ≡ length held.parts.items = length-map held.parts.items part_data in
-    let there : partition_of a b (length parts) ≡ q = ap (partition_of a b) count ∙ sym place in
-    let part : part_at parts q ≡ part_data None = part_is held.parts.items q d None within is in
-    sym (ap (λ (k : ℕ). option_map (λ v. key_count (take k parts) + v) (part_value held.shape.map held.seed (part_at parts k) a b)) there
-    ∙ ap (λ (p : PartData). option_map (λ v. key_count (take q parts) + v) (part_value held.shape.map held.seed p a b)) part)
-
--- a key whose partition has one has the value in it, behind the partitions before
-pub value_of-some : (held : Held) (key : List ℕ) (q : ℕ) (d : Option Lists) (lists : Lists) → IsHeld held →
-    q ≡ place_of held key → q < length held.parts.items →
-    get_or held.parts.items q d ≡ Some lists →
-    Some (key_count (take q (parts_data held.parts.items))
-    + position_value lists.n lists.free (pair_position lists.spread.map held.seed (lists_data lists) (first_hash key held.seed) (second_hash key held.seed)))
-    ≡ value_of (held_data held) key
-unfolding value_of
-value_of-some held key q d lists beside place within is =
-    let a = first_hash key held.seed in
-    let b = second_hash key held.seed in
-    let parts = parts_data held.parts.items in
-    let count : length parts ≡ length held.parts.items = length-map held.parts.items part_data in
-    let there : partition_of a b (length parts) ≡ q = ap (partition_of a b) count ∙ sym place in
-    let part : part_at parts q ≡ lists_data lists = part_is held.parts.items q d (Some lists) within is in
-    let under : IsUnder held.shape.map held.enc (Some lists) =
-    subst (IsUnder held.shape.map held.enc) is (beside.under q d within) in
-    let some = lists.some in
-    let other : lists.n ≡ 0 → ⊥ = λ none. omega arith in
-    let value = λ (m : Map). position_value lists.n lists.free (pair_position m held.seed (lists_data lists) a b) in
-    let here : part_value held.shape.map held.seed (lists_data lists) a b ≡ Some (value held.shape.map) =
-    ap (λ t. cond t None (Some (value held.shape.map))) (ne_eqb lists.n 0 other) in
-    sym (ap (λ (k : ℕ). option_map (λ v. key_count (take k parts) + v) (part_value held.shape.map held.seed (part_at parts k) a b)) there
-    ∙ ap (λ (p : PartData). option_map (λ v. key_count (take q parts) + v) (part_value held.shape.map held.seed p a b)) part
-    ∙ ap (option_map (λ v. key_count (take q parts) + v)) here
-    ∙ ap (λ m. Some (key_count (take q parts) + value m)) (sym under.0))
-
--- a key has no value exactly where its partition has no key
-pub no_value : (x : IndexData) (key : List ℕ) → (value_of x key ≡ None) ↔ (keys_beside x key ≡ 0)
-unfolding value_of
-no_value x key = by_test (keys == 0) refl
-  where
-    q : ℕ
-    q = partition_of (first_hash key x.seed) (second_hash key x.seed) (length x.parts)
-
-    keys : ℕ
-    keys = (part_at x.parts q).n
-
-    value : ℕ
-    value = position_value keys (part_at x.parts q).free (pair_position x.shape.map x.seed (part_at x.parts q) (first_hash key x.seed) (second_hash key x.seed))
-
-    by_test : (t : Bool) → (keys == 0) ≡ t → (option_map (λ v. key_count (take q x.parts) + v) (cond t None (Some value)) ≡ None) ↔ (keys ≡ 0)
-    by_test true is = (λ none. eqb-true keys 0 is, λ none. refl)
-    by_test false is = (λ none. absurd cc, λ none. absurd (eqb-false keys 0 is none))
-
 -- a sum over the first partitions and those that come
-pub sums_more : (f : PartData → ℕ) (parts : List (Option Lists)) (i total here all : ℕ) → i < length parts → here ≡ f (part_data (get_or parts i None)) →
+pub sums_more : (f : PartData → ℕ) (parts : List (Option Lists)) (i total here all : ℕ) → i < length parts →
+    here ≡ f (part_data (get_or parts i None)) →
     total + sum_by f (parts_data (drop i parts)) ≡ all → (total + here) + sum_by f (parts_data (drop (i + 1) parts)) ≡ all
 sums_more f parts i total here all within is so_far =
     let next : drop i parts ≡ get_or parts i None ∷ drop (i + 1) parts =

@@ -63,7 +63,8 @@ pub partitions_more : (bytes : List ℕ) (enc : Encoding) (shape : ShapeData) (c
     IsUnder shape.map enc lists → ArePartitions bytes enc shape counts at (i + 1) (parts ++ lists ∷ []) next
 partitions_more bytes enc shape counts at i parts place lists next more so_far read within under =
     let rest = partitions_at (length bytes) enc shape (i + 1) (drop (i + 1) counts) (drop next bytes) in
-    let step : partitions_at (length bytes) enc shape i (drop i counts) (drop place bytes) ≡ (rest >>= λ others. Ok (part_data lists ∷ others.0, others.1)) =
+    let step : partitions_at (length bytes) enc shape i (drop i counts) (drop place bytes) ≡
+    (rest >>= λ others. Ok (part_data lists ∷ others.0, others.1)) =
     next_partition bytes enc shape counts i place more
     ∙ ap (λ (r : Result (PartData × List ℕ) IndexFault). r >>= λ first. partitions_at (length bytes) enc shape (i + 1) (drop (i + 1) counts) first.1
     >>= λ others. Ok (first.0 ∷ others.0, others.1)) read in

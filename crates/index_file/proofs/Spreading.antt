@@ -13,6 +13,7 @@ use Rattle.index_file.specs.Spread.{fronts_of, limit_of}
 below_limit : (fronts a : ℕ) → a < limit_of fronts → (0 < fronts) × (a < FRONT_HASHES)
 below_limit fronts a low = by_test (fronts == 0) refl low
   where
+    -- by whether there is a front bucket
     by_test : (t : Bool) → (fronts == 0) ≡ t → a < cond t 0 FRONT_HASHES → (0 < fronts) × (a < FRONT_HASHES)
     by_test true is lt = absurd (omega arith)
     by_test false is lt = let other : fronts ≡ 0 → ⊥ = eqb-false fronts 0 is in (omega arith, lt)
@@ -21,6 +22,7 @@ below_limit fronts a low = by_test (fronts == 0) refl low
 past_limit : (fronts a : ℕ) → limit_of fronts ≤ a → 0 < fronts → FRONT_HASHES ≤ a
 past_limit fronts a high some = by_test (fronts == 0) refl high
   where
+    -- by whether there is a front bucket
     by_test : (t : Bool) → (fronts == 0) ≡ t → cond t 0 FRONT_HASHES ≤ a → FRONT_HASHES ≤ a
     by_test true is le = let none : fronts ≡ 0 = eqb-true fronts 0 is in absurd (omega arith)
     by_test false is le = le
@@ -45,6 +47,7 @@ bucket-back Skewed a m fronts back are is high =
       | inr le ↦ skewed_bucket_of-back a m fronts are (inr le)
     ]
   where
+    -- where a front hash is past the limit, there is no front bucket
     none : a < FRONT_HASHES → fronts ≤ 0
     none low = elim (cases_lt 0 fronts) [
       | inl some ↦ let most = past_limit fronts a high some in absurd (omega arith)

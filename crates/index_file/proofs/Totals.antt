@@ -29,7 +29,8 @@ pub starts_first : (counts : List ℕ) → AreStarts counts 0 0 []
 starts_first counts = record { sums = total_first counts; are = refl }
 
 -- one sum more
-pub starts_more : (counts : List ℕ) (i total : ℕ) (starts : List ℕ) → i < length counts → get_or counts i 0 < 67108865 → AreStarts counts i total starts →
+pub starts_more : (counts : List ℕ) (i total : ℕ) (starts : List ℕ) → i < length counts → get_or counts i 0 < 67108865 →
+    AreStarts counts i total starts →
     AreStarts counts (i + 1) (total + get_or counts i 0) (starts ++ total ∷ [])
 unfolding starts_from
 starts_more counts i total starts within few so_far =
@@ -42,7 +43,8 @@ starts_more counts i total starts within few so_far =
     }
 
 -- all sums
-pub starts_all : (counts : List ℕ) (i total : ℕ) (starts : List ℕ) → length counts ≤ i → AreStarts counts i total starts → starts ≡ starts_from 0 counts
+pub starts_all : (counts : List ℕ) (i total : ℕ) (starts : List ℕ) → length counts ≤ i → AreStarts counts i total starts →
+    starts ≡ starts_from 0 counts
 unfolding starts_from
 starts_all counts i total starts past so_far =
     let none : drop i counts ≡ [] = Rattle.std.proofs.lemmas.List.nil_from_length (drop i counts)

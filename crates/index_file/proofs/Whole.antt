@@ -37,11 +37,13 @@ sealed_length bytes body fits read =
     )
 
 -- what was read is an index
-pub read_is : (bytes : List ℕ) (held : Held) → IsBytes bytes → index_at bytes ≡ Ok (held_data held, held.enc) → IsIndex bytes (held_data held) held.enc
+pub read_is : (bytes : List ℕ) (held : Held) → IsBytes bytes → index_at bytes ≡ Ok (held_data held, held.enc) →
+    IsIndex bytes (held_data held) held.enc
 read_is bytes held fits read = index_takes bytes (held_data held) held.enc fits read
 
 -- it is kept with the length of its bytes
-pub kept_is : (bytes : List ℕ) (held : Held) → IsBytes bytes → index_at bytes ≡ Ok (held_data held, held.enc) → IsHeld held → IsKept held (length bytes)
+pub kept_is : (bytes : List ℕ) (held : Held) → IsBytes bytes → index_at bytes ≡ Ok (held_data held, held.enc) → IsHeld held →
+    IsKept held (length bytes)
 kept_is bytes held fits read beside =
     let is = read_is bytes held fits read in record { valid = is.valid; beside = beside; bytes_are = ap length is.text }
 

@@ -1,5 +1,6 @@
 // The mark and the numbers of keys of the partitions.
-ghost use Rattle.std.specs.Prelude.{◌≡◌, ◌+◌, ◌-◌, ◌*◌, ◌^◌, ◌≤◌, ◌<◌, ℕ, List, length, drop, sum, option_map, IfOk, OnOk, OnErr};
+ghost use Rattle.std.specs.Prelude.{◌≡◌, ◌+◌, ◌-◌, ◌*◌, ◌^◌, ◌≤◌, ◌<◌, ℕ, List, length, drop};
+ghost use Rattle.std.specs.Prelude.{sum, option_map, IfOk, OnOk, OnErr};
 ghost use Rattle.elias_fano.specs.Values.{below_len};
 ghost use Rattle.index_text.specs.Faults.{Gives};
 ghost use Rattle.index_text.specs.Fields.{mark_at, counts_at};

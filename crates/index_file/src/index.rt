@@ -1,7 +1,8 @@
 // An index: lookups, and what its file says of it.
 ghost use Rattle.std.specs.Prelude.{◌≡◌, ◌<◌, ◌≤◌, ◌^◌, ◌↔◌, ◌++◌, length, take, sum_by, Some, None, option_map, IfSome, OnOk};
+ghost use Rattle.pthash.specs.Sizes.{partition_of};
 ghost use Rattle.bucket_map.specs.ShapeData.{shape_data};
-ghost use Rattle.build_outcome.specs.Values.{part_size, value_of};
+ghost use Rattle.build_outcome.specs.Values.{part_size, part_at, pair_value, value_of};
 ghost use Rattle.index_text.specs.Text.{version_of, index_text};
 ghost use Rattle.build_outcome.specs.Validity.{IsMark, IsValidIndex};
 ghost use Rattle.index_file.specs.Encoded.{EncodedIndex, keys_beside, marked};
@@ -11,11 +12,12 @@ ghost use Rattle.pthash.specs.declared.TheConstants.{MAX_POSITIONS, MAX_BUCKETS}
 
 use crate::held::Held;
 use crate::lists::Lists;
-use crate::values::value_of_key;
+use crate::values::{value_of_key, value_of_pair};
 use crate::writing::put_file;
 use bucket_map::Shape;
 use build_outcome::KeyMark;
 use index_text::{MARKED, UNMARKED};
+use murmur64::HashPair;
 use pilot_codecs::{Encoding, NoMemory};
 use std::marker::Model;
 
@@ -141,6 +143,17 @@ impl Index {
         ensures below { IfSome result (λ value. value < self.now.index.n) }
     {
         value_of_key(&self.held, key)
+    }
+
+    /// The number of a key with these hashes at the seed of the index, as `lookup` gives it.
+    pub fn lookup_pair(&self, pair: HashPair) -> Option<u64>
+        ensures value { result ≡ pair_value self.now.index pair.a pair.b }
+        ensures none { let parts = self.now.index.parts in
+            (result ≡ None) ↔ ((part_at parts (partition_of pair.a pair.b (length parts))).n ≡ 0) }
+        ensures below { IfSome result (λ value. value < self.now.index.n) }
+        ensures valid { IsValidIndex self.now.index }
+    {
+        value_of_pair(&self.held, pair)
     }
 
     /// What the file says of the index.

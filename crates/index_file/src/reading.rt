@@ -61,7 +61,8 @@ pub fn read_index(alloc: Global, bytes: &[u8]) -> Result<Index, IndexFault>
     ensures found { IfOk result (λ index. IsIndex bytes.now index.index index.enc) }
     // The file of an index is read, unless memory runs out.
     ensures only { (x : IndexData) (enc : Encoding) → IsIndex bytes.now x enc →
-        Gives {Y = IndexData × Encoding} (λ index. (index.index, index.enc)) result (Ok (x, enc)) }
+        Gives {Y = IndexData × Encoding} (λ index. (index.index, index.enc)) result
+        (Ok (x, enc)) }
     // Which fault it is: the first one.
     ensures exact { Gives (λ index. (index.index, index.enc)) result (index_at bytes.now) }
 {

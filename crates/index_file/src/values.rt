@@ -1,6 +1,6 @@
-// The value of a pair of hashes in a partition, and of a key in an index.
-ghost use Rattle.std.specs.Prelude.{◌≡◌};
-ghost use Rattle.build_outcome.specs.Values.{position_value, pair_position, value_of};
+// The value of a pair of hashes in a partition, and of a pair or a key in an index.
+ghost use Rattle.std.specs.Prelude.{◌≡◌, ◌<◌, IfSome};
+ghost use Rattle.build_outcome.specs.Values.{position_value, pair_position, pair_value, value_of};
 ghost use Rattle.build_outcome.specs.Validity.{IsValidIndex};
 ghost use Rattle.index_file.specs.Held.{held_data, IsHeld};
 ghost use Rattle.index_file.specs.Lists.{lists_data};
@@ -10,7 +10,7 @@ use crate::lists::Lists;
 use bucket_map::partition_of;
 use murmur64::{HashPair, hash_pair, pilot_hash};
 
-// The value of a pair of hashes.
+// The value of a pair of hashes in a partition.
 #[inline]
 pub(crate) fn value_in(lists: &Lists, pair: HashPair, seed: u64) -> u64
     ensures { result ≡ position_value lists.now.n lists.now.free
@@ -25,6 +25,21 @@ pub(crate) fn value_in(lists: &Lists, pair: HashPair, seed: u64) -> u64
     lists.free.get(position - lists.n).unwrap()
 }
 
+// The value of a pair of hashes in an index.
+#[inline]
+pub(crate) fn value_of_pair(held: &Held, pair: HashPair) -> Option<u64>
+    requires valid { IsValidIndex (held_data held.now) }
+    requires beside { IsHeld held.now }
+    ensures value { result ≡ pair_value (held_data held.now) pair.a pair.b }
+    ensures below { IfSome result (λ value. value < held.now.n) }
+{
+    let q = partition_of(pair.a, pair.b, held.parts.len() as u32) as usize;
+    match &held.parts[q] {
+        None => None,
+        Some(lists) => Some(held.starts[q] + value_in(lists, pair, held.seed)),
+    }
+}
+
 // The value of a key.
 #[inline]
 pub(crate) fn value_of_key(held: &Held, key: &[u8]) -> Option<u64>
@@ -32,10 +47,5 @@ pub(crate) fn value_of_key(held: &Held, key: &[u8]) -> Option<u64>
     requires beside { IsHeld held.now }
     ensures { result ≡ value_of (held_data held.now) key.now }
 {
-    let pair = hash_pair(key, held.seed);
-    let q = partition_of(pair.a, pair.b, held.parts.len() as u32) as usize;
-    match &held.parts[q] {
-        None => None,
-        Some(lists) => Some(held.starts[q] + value_in(lists, pair, held.seed)),
-    }
+    value_of_pair(held, hash_pair(key, held.seed))
 }

@@ -1,5 +1,6 @@
 -- What is read of a mark and of the numbers of keys is their text, and their text is read again.
-use Rattle.std.specs.Prelude.{◌≡◌, ℕ, ◌+◌, ◌-◌, ◌*◌, ◌^◌, ◌<◌, ◌≤◌, cond, not, ◌==◌, nat_lt, List, ◌++◌, length, drop, sum, All}
+use Rattle.std.specs.Prelude.{◌≡◌, ℕ, ◌+◌, ◌-◌, ◌*◌, ◌^◌, ◌<◌, ◌≤◌, cond, not, ◌==◌, nat_lt}
+use Rattle.std.specs.Prelude.{List, ◌++◌, length, drop, sum, All}
 use Rattle.std.specs.Prelude.{Option, Some, None, IfSome, Result, Ok, Err}
 use Rattle.std.specs.List.{flat_map}
 use Rattle.std.proofs.Common.{get_or, refl, sym, ap, ◌∙◌, subst, inl, inr, arith}
@@ -30,7 +31,8 @@ pub record MarkTaken (version : ℕ) (bytes : List ℕ) (mark : Option KeyMarkDa
   pub unmarked : mark ≡ None → version ≡ MARKED → ⊥
 
 -- what is read as a mark is its text
-pub mark_takes : (version : ℕ) (bytes : List ℕ) (mark : Option KeyMarkData) (rest : List ℕ) → IsBytes bytes → UNMARKED ≤ version → version ≤ MARKED →
+pub mark_takes : (version : ℕ) (bytes : List ℕ) (mark : Option KeyMarkData) (rest : List ℕ) → IsBytes bytes → UNMARKED ≤ version →
+    version ≤ MARKED →
     mark_at version bytes ≡ Ok (mark, rest) → MarkTaken version bytes mark rest
 unfolding mark_at
 mark_takes version bytes mark rest fits low high e =
@@ -49,7 +51,8 @@ mark_takes version bytes mark rest fits low high e =
           })
       | inr b ↦
           let is = eqb-true version MARKED (not-false (version == MARKED) b.0) in
-          let c = guard_ok {B = Option KeyMarkData × List ℕ} (nat_lt (length bytes) MARK_LEN) faults.Short (Ok (Some there, drop 16 bytes)) (mark, rest) b.1 in
+          let c = guard_ok {B = Option KeyMarkData × List ℕ} (nat_lt (length bytes) MARK_LEN) faults.Short
+          (Ok (Some there, drop 16 bytes)) (mark, rest) b.1 in
           let long : 16 ≤ length bytes = ltb-false (length bytes) MARK_LEN c.0 in
           let text : bytes ≡ number there.sum ++ (number there.xor ++ drop 16 bytes) =
           word_text 0 bytes fits (omega arith) ∙ ap (λ (t : List ℕ). number there.sum ++ t) (word_text 8 bytes fits (omega arith)) in
@@ -121,6 +124,7 @@ counts_again total n counts rest few adds =
     ∙ ap (λ (r : Result (List ℕ × List ℕ) IndexFault). r >>= add_up n) read
     ∙ ap (λ b. cond b (Ok (counts, rest)) (Err (faults.Count n (sum counts)))) (eq-eqb (sum counts) n adds)
   where
+    -- each count has 64 bits
     counts_fit : (ks : List ℕ) → All (λ k. k < MAX_KEYS + 1) ks → (i : ℕ) → get_or ks i 0 < 2 ^ 64
     counts_fit ks below i = elim (cases_lt i (length ks)) [
       | inl within ↦ omega (arith, below i 0 within)

@@ -1,5 +1,6 @@
 -- What is read of the fields and of the digest is their text, and their text is read again.
-use Rattle.std.specs.Prelude.{◌≡◌, ℕ, ◌+◌, ◌-◌, ◌^◌, ◌<◌, ◌≤◌, false, cond, not, ◌&&◌, ◌==◌, nat_lt, List, [], ◌∷◌, ◌++◌, length, take, drop}
+use Rattle.std.specs.Prelude.{◌≡◌, ℕ, ◌+◌, ◌-◌, ◌^◌, ◌<◌, ◌≤◌, false, cond, not, ◌&&◌, ◌==◌}
+use Rattle.std.specs.Prelude.{nat_lt, List, [], ◌∷◌, ◌++◌, length, take, drop}
 use Rattle.std.specs.Prelude.{◌⊎◌, slice_index, bytes_eq, Option, Some, None, Result, Ok, Err}
 use Rattle.std.specs.List.{flat_map}
 use Rattle.std.proofs.Common.{refl, sym, ap, ◌∙◌, subst, inl, inr, arith, drop-cons}
@@ -82,6 +83,7 @@ sealed_takes bytes body fits e =
       version_high = omega (arith, range.1, at_four);
     })
   where
+    -- what stands before the digest begins as the bytes do
     sealed_front : (bs : List ℕ) (k : ℕ) → k + 8 ≤ length bs → take k (body_of bs) ≡ take k bs
     sealed_front bs k le = Rattle.std.proofs.lemmas.List.take-take k (length bs - 8) bs (omega arith)
 
@@ -118,12 +120,14 @@ pub record AreFields (head : HeadFields) : Type 0 where
 
 -- the five numbers from place 8 on
 numbers_text : (bytes : List ℕ) → IsBytes bytes → 48 ≤ length bytes →
-    drop 8 bytes ≡ flat_map number (word_at 8 bytes ∷ word_at 16 bytes ∷ word_at 24 bytes ∷ word_at 32 bytes ∷ word_at 40 bytes ∷ []) ++ drop 48 bytes
+    drop 8 bytes ≡
+    flat_map number (word_at 8 bytes ∷ word_at 16 bytes ∷ word_at 24 bytes ∷ word_at 32 bytes ∷ word_at 40 bytes ∷ []) ++ drop 48 bytes
 numbers_text bytes fits some =
     word_text 8 bytes fits (omega arith)
     ∙ ap (λ (t : List ℕ). number (word_at 8 bytes) ++ t) (word_text 16 bytes fits (omega arith))
     ∙ ap (λ (t : List ℕ). number (word_at 8 bytes) ++ (number (word_at 16 bytes) ++ t)) (word_text 24 bytes fits (omega arith))
-    ∙ ap (λ (t : List ℕ). number (word_at 8 bytes) ++ (number (word_at 16 bytes) ++ (number (word_at 24 bytes) ++ t))) (word_text 32 bytes fits (omega arith))
+    ∙ ap (λ (t : List ℕ). number (word_at 8 bytes) ++ (number (word_at 16 bytes) ++ (number (word_at 24 bytes) ++ t)))
+    (word_text 32 bytes fits (omega arith))
     ∙ ap (λ (t : List ℕ). number (word_at 8 bytes) ++ (number (word_at 16 bytes) ++ (number (word_at 24 bytes) ++ (number (word_at 32 bytes) ++ t))))
     (word_text 40 bytes fits (omega arith))
 
@@ -143,7 +147,8 @@ unfolding head_of
 head_takes bytes fits some magic =
     let text : bytes ≡ MAGIC ++ drop 4 bytes = sym (take-append-drop 4 bytes) ∙ ap (λ (t : List ℕ). t ++ drop 4 bytes) magic in (
       text ∙ ap (λ (t : List ℕ). MAGIC ++ t) (bytes_text bytes (omega arith)
-          ∙ ap (λ (t : List ℕ). slice_index bytes 4 ∷ slice_index bytes 5 ∷ slice_index bytes 6 ∷ slice_index bytes 7 ∷ t) (numbers_text bytes fits some)),
+          ∙ ap (λ (t : List ℕ). slice_index bytes 4 ∷ slice_index bytes 5 ∷ slice_index bytes 6 ∷ slice_index bytes 7 ∷ t)
+          (numbers_text bytes fits some)),
       record {
         seed = word_at-lt 8 bytes fits;
         n = word_at-lt 16 bytes fits;
@@ -250,7 +255,8 @@ encoding_takes head enc e =
     )
 
 -- the numbers of an encoding are read as that encoding
-pub encoding_again : (head : HeadFields) (enc : Encoding) → head.front ≡ code_number enc.front → head.back ≡ back_number enc.back → encoding_at head ≡ Ok enc
+pub encoding_again : (head : HeadFields) (enc : Encoding) → head.front ≡ code_number enc.front → head.back ≡ back_number enc.back →
+    encoding_at head ≡ Ok enc
 unfolding encoding_at
 encoding_again head enc front back =
     let first : code_with head.front ≡ Ok enc.front = ap code_with front ∙ code_again enc.front in
@@ -258,7 +264,8 @@ encoding_again head enc front back =
     rw (first, second) refl
 
 -- the map that was read has that number, and the first version has one map alone
-pub map_takes : (version k : ℕ) (spread : Map) → map_with version k ≡ Ok spread → (map_number spread ≡ k) × ((version ≡ MARKED → ⊥) → spread ≡ Skewed)
+pub map_takes : (version k : ℕ) (spread : Map) → map_with version k ≡ Ok spread →
+    (map_number spread ≡ k) × ((version ≡ MARKED → ⊥) → spread ≡ Skewed)
 unfolding map_with
 map_takes version k spread e =
     let other : Result Map IndexFault = cond ((k == 1) && (version == MARKED)) (Ok Uniform) (Err faults.Encoding) in

@@ -1,5 +1,6 @@
 -- What is read is the text of a valid index, and the text of a valid index is read again.
-use Rattle.std.specs.Prelude.{◌≡◌, ℕ, ◌+◌, ◌-◌, ◌<◌, ◌≤◌, ◌⊎◌, List, [], ◌∷◌, ◌++◌, length, drop, sum, slice_index, All, Option, Some, None}
+use Rattle.std.specs.Prelude.{◌≡◌, ℕ, ◌+◌, ◌-◌, ◌<◌, ◌≤◌, ◌⊎◌, List, [], ◌∷◌, ◌++◌}
+use Rattle.std.specs.Prelude.{length, drop, sum, slice_index, All, Option, Some, None}
 use Rattle.std.specs.Prelude.{Result, Ok, ◌==◌}
 use Rattle.std.specs.List.{flat_map}
 use Rattle.std.proofs.Common.{refl, sym, ap, ◌∙◌, subst, append_assoc, inl, inr, arith}
@@ -54,7 +55,8 @@ record IsHeaded (head : HeadFields) (bytes : List ℕ) (x : IndexData) (enc : En
 
 -- the steps of a reading behind the fields, put together
 headed_is : (head : HeadFields) (bytes : List ℕ) (enc : Encoding) (spread : Map) (shape : ShapeData) (mark : Option KeyMarkData)
-    (after counts lists : List ℕ) (parts : List PartData) → AreFields head → encoding_at head ≡ Ok enc → map_with head.version head.spread ≡ Ok spread →
+    (after counts lists : List ℕ) (parts : List PartData) → AreFields head → encoding_at head ≡ Ok enc →
+    map_with head.version head.spread ≡ Ok spread →
     IsInRange spread head shape → MarkTaken head.version bytes mark after → CountsTaken head.n head.parts after counts lists →
     PartsTaken enc shape counts lists parts [] →
     IsHeaded head bytes (record { seed = head.seed; n = head.n; shape = shape; parts = parts; mark = mark }) enc
@@ -167,6 +169,7 @@ AreFields-fields_of x enc valid = record {
 map_or_version : (x : IndexData) → IsValidIndex x → (x.shape.map ≡ Skewed) ⊎ (version_of x.mark ≡ MARKED)
 map_or_version x valid = by_mark x.mark refl
   where
+    -- by whether there is a mark
     by_mark : (mark : Option KeyMarkData) → x.mark ≡ mark → (x.shape.map ≡ Skewed) ⊎ (version_of x.mark ≡ MARKED)
     by_mark None is = inl (valid.unmarked_is_skewed is)
     by_mark (Some mark) is = inr (ap version_of is)
@@ -218,6 +221,7 @@ index_again x enc valid =
     ∙ (λ i. headed_at (length body) (h.0 i) (h.1 i))
     ∙ headed_again (length body) x enc valid
   where
+    -- the version is one of both
     version_range : (mark : Option KeyMarkData) → (UNMARKED ≤ version_of mark) × (version_of mark ≤ MARKED)
     version_range None = (omega arith, omega arith)
     version_range (Some mark) = (omega arith, omega arith)

@@ -1,5 +1,6 @@
 -- How long the text of an index is.
-use Rattle.std.specs.Prelude.{◌≡◌, ℕ, ◌+◌, ◌*◌, ◌<◌, ◌≤◌, true, false, cond, max, List, [], ◌∷◌, ◌++◌, length, All, Option, Some, None}
+use Rattle.std.specs.Prelude.{◌≡◌, ℕ, ◌+◌, ◌*◌, ◌<◌, ◌≤◌, true, false, cond, max, List, [], ◌∷◌}
+use Rattle.std.specs.Prelude.{◌++◌, length, All, Option, Some, None}
 use Rattle.std.specs.List.{flat_map}
 use Rattle.std.specs.Int.{div_ceil, is_power_of_two}
 use Rattle.std.proofs.Common.{refl, ap, inl, inr, arith}

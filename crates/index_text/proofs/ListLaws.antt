@@ -1,5 +1,6 @@
 -- What is read of the partitions is their text, and their text is read again.
-use Rattle.std.specs.Prelude.{◌≡◌, ℕ, ◌+◌, ◌-◌, ◌^◌, ◌<◌, ◌≤◌, cond, ◌==◌, List, [], ◌∷◌, ◌++◌, length, All, Result, Ok}
+use Rattle.std.specs.Prelude.{◌≡◌, ℕ, ◌+◌, ◌-◌, ◌^◌, ◌<◌, ◌≤◌, cond, ◌==◌, List, [], ◌∷◌}
+use Rattle.std.specs.Prelude.{◌++◌, length, All, Result, Ok}
 use Rattle.std.specs.List.Sorted.{IsNonDecreasing}
 use Rattle.std.proofs.Common.{get_or, refl, sym, ap, ◌∙◌, subst, append_assoc, inl, inr, arith}
 use Rattle.std.proofs.lemmas.Bool.{cases_lt, eqb-true, eqb-false, eq-eqb, ne_eqb}
@@ -54,6 +55,7 @@ pilots_take total enc number buckets bytes vs rest fits few e =
 pub FitSplit-pilots : (enc : Encoding) (vs : List ℕ) → length vs ≤ 2 ^ 30 → All (λ k. k < MAX_PILOTS) vs → FitSplit enc.front enc.back vs
 FitSplit-pilots enc vs few below = split_small enc.front enc.back vs few (all_small vs small)
   where
+    -- each pilot has 32 bits
     small : (i : ℕ) → get_or vs i 0 < 2 ^ 32
     small i = elim (cases_lt i (length vs)) [
       | inl within ↦ omega (arith, below i 0 within)
@@ -181,7 +183,8 @@ some_takes enc shape n bytes pilots after free rest shaped some few p f =
     }
 
 -- what is read as a partition is its text
-pub partition_takes : (total : ℕ) (enc : Encoding) (shape : ShapeData) (number n : ℕ) (bytes : List ℕ) (part : PartData) (rest : List ℕ) → IsShape shape →
+pub partition_takes : (total : ℕ) (enc : Encoding) (shape : ShapeData) (number n : ℕ) (bytes : List ℕ) (part : PartData) (rest : List ℕ) →
+    IsShape shape →
     IsBytes bytes → n ≤ MAX_KEYS → partition_at total enc shape number n bytes ≡ Ok (part, rest) → PartTaken enc shape n bytes part rest
 unfolding partition_at
 partition_takes total enc shape number n bytes part rest shaped fits few e =
@@ -212,7 +215,8 @@ IsRising-free shape part shaped valid some =
     IsRising-below part.free part.n valid.free_rises valid.free_is_below some valid.few_keys (omega (arith, valid.size, positions))
 
 -- a partition without a key is read again
-empty_again : (total : ℕ) (enc : Encoding) (shape : ShapeData) (number : ℕ) (part : PartData) (rest : List ℕ) → IsValidPart shape part → part.n ≡ 0 →
+empty_again : (total : ℕ) (enc : Encoding) (shape : ShapeData) (number : ℕ) (part : PartData) (rest : List ℕ) → IsValidPart shape part →
+    part.n ≡ 0 →
     partition_at total enc shape number part.n (part_text enc part ++ rest) ≡ Ok (part, rest)
 unfolding partition_at
 empty_again total enc shape number part rest valid none =
@@ -221,7 +225,8 @@ empty_again total enc shape number part rest valid none =
     rw (eq-eqb part.n 0 none) (λ i. Ok (sym (IsValidPart-none shape part valid none) i, after i))
 
 -- a partition with a key is read again
-some_again : (total : ℕ) (enc : Encoding) (shape : ShapeData) (number : ℕ) (part : PartData) (rest : List ℕ) → IsShape shape → IsValidPart shape part →
+some_again : (total : ℕ) (enc : Encoding) (shape : ShapeData) (number : ℕ) (part : PartData) (rest : List ℕ) → IsShape shape →
+    IsValidPart shape part →
     0 < part.n → partition_at total enc shape number part.n (part_text enc part ++ rest) ≡ Ok (part, rest)
 unfolding partition_at
 some_again total enc shape number part rest shaped valid some =

@@ -43,6 +43,7 @@ last_of-lt d (v ∷ vs) bound first below =
     last_of-lt v vs bound (All-head (λ x. x < bound) v vs below) (All-tail (λ x. x < bound) v vs below)
 
 -- a list that doesn't fall, of values below a number of keys, has a spelling
-pub IsRising-below : (vs : List ℕ) (n : ℕ) → IsNonDecreasing vs → All (λ v. v < n) vs → 1 ≤ n → n ≤ MAX_KEYS → length vs ≤ 2 ^ 36 → IsRising vs
+pub IsRising-below : (vs : List ℕ) (n : ℕ) → IsNonDecreasing vs → All (λ v. v < n) vs → 1 ≤ n → n ≤ MAX_KEYS →
+    length vs ≤ 2 ^ 36 → IsRising vs
 IsRising-below vs n up below some few short =
     record { rising = rises-from 0 vs up (λ some. omega arith); fits = omega (arith, last_of-lt 0 vs n (omega arith) below); few = short }

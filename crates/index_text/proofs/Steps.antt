@@ -12,7 +12,8 @@ use Rattle.index_text.specs.Faults.{◌>>=◌, formed, all_below}
 use Rattle.index_text.specs.Fields.{is_within}
 
 -- the value of a step without a fault
-pub bind_ok : {A B : Type 0} (r : Result A IndexFault) (f : A → Result B IndexFault) (y : B) → (r >>= f) ≡ Ok y → (x : A) × (r ≡ Ok x) × (f x ≡ Ok y)
+pub bind_ok : {A B : Type 0} (r : Result A IndexFault) (f : A → Result B IndexFault) (y : B) → (r >>= f) ≡ Ok y →
+    (x : A) × (r ≡ Ok x) × (f x ≡ Ok y)
 bind_ok (Ok x) f y e = (x, refl, e)
 bind_ok (Err d) f y e = absurd cc
 
@@ -32,6 +33,7 @@ pub either_ok : {B : Type 0} (b : Bool) (x : B) (r : Result B IndexFault) (y : B
 either_ok true x r y e = inl (refl, cc)
 either_ok false x r y e = inr (refl, e)
 
+-- a step that ended well
 abbrev pub done : {A : Type 0} → A → Result A IndexFault
 done x = Ok x
 
@@ -63,7 +65,8 @@ all_below-ok bound fault list y e =
     record { below = subst (λ (p : List ℕ × List ℕ). All (λ k. k < bound) p.0) same (all_counted bound list.0 all); same = same }
 
 -- a list that is below a bound is found to be
-pub all_below-again : (bound : ℕ) (fault : ℕ → IndexFault) (vs rest : List ℕ) → All (λ k. k < bound) vs → all_below bound fault (vs, rest) ≡ Ok (vs, rest)
+pub all_below-again : (bound : ℕ) (fault : ℕ → IndexFault) (vs rest : List ℕ) → All (λ k. k < bound) vs →
+    all_below bound fault (vs, rest) ≡ Ok (vs, rest)
 all_below-again bound fault vs rest below =
     let all : below_len bound vs ≡ length vs = below_each bound vs (λ i within. below i 0 within) in
     rw (le-ltb (below_len bound vs) (length vs) (omega arith)) refl

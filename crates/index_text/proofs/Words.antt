@@ -9,7 +9,8 @@ use Rattle.elias_fano.proofs.CallerLemmas.{IsBytes, IsBytes-drop, IsBytes-take}
 use Rattle.index_text.specs.Fields.{word_at}
 
 -- a number at a place in bytes, and what follows
-pub word_text : (at : ℕ) (bytes : List ℕ) → IsBytes bytes → at + 8 ≤ length bytes → drop at bytes ≡ number (word_at at bytes) ++ drop (at + 8) bytes
+pub word_text : (at : ℕ) (bytes : List ℕ) → IsBytes bytes → at + 8 ≤ length bytes →
+    drop at bytes ≡ number (word_at at bytes) ++ drop (at + 8) bytes
 word_text at bytes fits le =
     let b = drop at bytes in
     let size : length (take 8 b) ≡ 8 = omega (arith, length-take 8 b, length-drop at bytes) in
@@ -21,6 +22,7 @@ word_text at bytes fits le =
 pub word_at-lt : (at : ℕ) (bytes : List ℕ) → IsBytes bytes → word_at at bytes < 2 ^ 64
 word_at-lt at bytes fits = number_lt (take 8 (drop at bytes)) (IsBytes-take 8 (drop at bytes) (IsBytes-drop at bytes fits))
   where
+    -- eight bytes make a number of 64 bits
     number_lt : (b : List ℕ) → IsBytes b → from_le_bytes w64 b < 2 ^ 64
     number_lt b h = omega (arith, h 0, h 1, h 2, h 3, h 4, h 5, h 6, h 7)
 
