@@ -233,7 +233,10 @@ done_files : (d : Done) (status : ℕ) (f f' : FilesState) (s s' : SinkState) �
     (d.status ≡ 0) × (f'.told ≡ option_map (with_file d.file) f.told)
 done_files d status f f' s s' finishes done = ⊎_elim
     (λ zero. let ends : EndsAs d status s s' f.told f'.told = finishes.ends (record {
-      no_fault = λ is. omega arith; no_failed_output = λ is. omega arith; no_want = λ is. omega arith }) in
+      no_fault = λ is. omega arith;
+      no_failed_output = λ is. omega arith;
+      no_want = λ is. omega arith;
+    }) in
     (sym ends.status_is ∙ zero, ends.files))
     (λ failed. let cut : IsCutOff d s s' f.told f'.told = finishes.cut_off failed in (cut.well_done, cut.files))
     done
@@ -246,12 +249,18 @@ pub ends_done : (command : Result CommandData WordFault) (d : Done) (status : �
 ends_done command d status f f' s s' is builds refused finishes = record {
   done = λ of_command. some_and f.told (command_result command) d (λ d. EndsAs d status s s' f.told f'.told) is (finishes.ends of_command);
   repeated = λ four. let ends : EndsAs d status s s' f.told f'.told = finishes.ends (record {
-      no_fault = λ is. omega arith; no_failed_output = λ is. omega arith; no_want = λ is. omega arith }) in
+    no_fault = λ is. omega arith;
+    no_failed_output = λ is. omega arith;
+    no_want = λ is. omega arith;
+  }) in
       command_repeats command f.told d is (sym ends.status_is ∙ four);
   built = λ done. let files : (d.status ≡ 0) × (f'.told ≡ option_map (with_file d.file) f.told) = done_files d status f f' s s' finishes done in
       subst (λ t. IfSome f.told (λ m. CommandBuilds command m t)) (sym files.1) (builds files.0);
   only_refused = λ one. let ends : EndsAs d status s s' f.told f'.told = finishes.ends (record {
-      no_fault = λ is. omega arith; no_failed_output = λ is. omega arith; no_want = λ is. omega arith }) in
+    no_fault = λ is. omega arith;
+    no_failed_output = λ is. omega arith;
+    no_want = λ is. omega arith;
+  }) in
       refused (sym ends.status_is ∙ one);
   statuses = finishes.statuses;
   leaves = LeavesFiles-if f f' (λ is. is) (of_silent f.told (command_result command)) finishes.leaves;

@@ -65,12 +65,7 @@ fn build<R: Threads + Sync, F: Files>(
 }
 
 // The answer on an index that was built, with its file.
-fn index_answer(
-    alloc: Global,
-    built: &Built,
-    name: &str,
-    enc: Encoding,
-) -> Result<Answer, NoMemory>
+fn index_answer(alloc: Global, built: &Built, name: &str, enc: Encoding) -> Result<Answer, NoMemory>
     ensures done { IfOk result (λ answer. done_of answer ≡ index_file_of name.now enc built.now) }
     ensures index { OnOk result (IsIndex (index_text built.now enc) built.now enc) }
 {

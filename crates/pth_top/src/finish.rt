@@ -37,12 +37,7 @@ pub fn finish<F: Files, O: Sink>(
 }
 
 // Ends a command that was done.
-fn finish_done<F: Files, O: Sink>(
-    alloc: Global,
-    answer: &Answer,
-    files: &mut F,
-    out: &mut O,
-) -> u8
+fn finish_done<F: Files, O: Sink>(alloc: Global, answer: &Answer, files: &mut F, out: &mut O) -> u8
     ensures { Finishes (done_of answer.now) result
         (F.state files.old) (F.state files.new) (O.state out.old) (O.state out.new) }
 {
@@ -53,11 +48,7 @@ fn finish_done<F: Files, O: Sink>(
 }
 
 // Writes the new file, if there is one.
-fn write_new<F: Files>(
-    alloc: Global,
-    file: &Option<NewFile>,
-    files: &mut F,
-) -> Result<(), Stop>
+fn write_new<F: Files>(alloc: Global, file: &Option<NewFile>, files: &mut F) -> Result<(), Stop>
     ensures ok { OnOk result ((F.state files.new).told
         ≡ option_map (with_file (option_map new_file_data file.now)) (F.state files.old).told) }
     ensures err { OnErr result (KeepsBut (option_map new_file_data file.now)
@@ -89,12 +80,7 @@ fn write_file<F: Files>(alloc: Global, file: &NewFile, files: &mut F) -> Result<
 }
 
 // Writes bytes under a name, and puts the file in its place by the last call.
-fn put_file<F: Files>(
-    tmp: &str,
-    name: &str,
-    bytes: &[u8],
-    files: &mut F,
-) -> Result<(), FileErr>
+fn put_file<F: Files>(tmp: &str, name: &str, bytes: &[u8], files: &mut F) -> Result<(), FileErr>
     requires { tmp.now ≡ tmp_of name.now }
     ensures ok { OnOk result ((F.state files.new).told
         ≡ option_map (with_new (record { name = name.now; bytes = bytes.now }))

@@ -35,12 +35,7 @@ pub fn query_command<F: Files, O: Sink>(
 
 // The values of the lines of a file in the index of another, or why there are none. A faulty index makes no call on the
 // second file.
-fn query<F: Files>(
-    alloc: Global,
-    index: &str,
-    queries: &str,
-    files: &mut F,
-) -> Result<Answer, Stop>
+fn query<F: Files>(alloc: Global, index: &str, queries: &str, files: &mut F) -> Result<Answer, Stop>
     ensures done { IfOk result (λ answer. IfSome (F.state files.old).told (λ m.
         command_result (Ok (QueryOf index.now queries.now)) m ≡ Some (done_of answer))) }
     // No file changes, whatever the answer.

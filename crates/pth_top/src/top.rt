@@ -98,11 +98,13 @@ fn run_words<R: Threads + Sync, F: Files, O: Sink>(
         Ok(Command::Pilots { keys, options }) => {
             pilots_command(rt, alloc, &keys, &options, files, out)
         }
-        Ok(Command::Build {
-            keys,
-            index,
-            options,
-        }) => build_command(rt, alloc, &keys, &index, &options, files, out),
+        Ok(
+            Command::Build {
+                keys,
+                index,
+                options,
+            },
+        ) => build_command(rt, alloc, &keys, &index, &options, files, out),
         Ok(Command::Query { index, queries }) => query_command(alloc, &index, &queries, files, out),
         Err(WordsErr::Bad(fault)) => refuse(alloc, fault, out),
         Err(WordsErr::NoMemory) => show_want(out),
