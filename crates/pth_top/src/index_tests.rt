@@ -139,12 +139,24 @@ fn refusals_change_no_file(rt: HostRuntime) -> Result<(), Fail> {
         ),
         (b"\n", &["query", "missing", "Q"], 2, "file fault\n"),
     ] {
-        let mut files = files_of(&rt, Vec::new(rt.alloc()), keys, b"old", b"x\n")?;
-        files.put("I.tmp", b"unfinished")?;
-        runs(&rt, words, &mut files, status, text.as_bytes(), b"old")?;
-        assert_eq!(&rt; files.get("I.tmp"), Some(b"unfinished".as_slice()));
-        assert_eq!(&rt; files.get("K"), Some(keys));
+        refuses(&rt, words, keys, status, text)?;
     }
+    Ok(())
+}
+
+// A refusal leaves all files as they were.
+fn refuses<R: Abort + AllocGlobal + Threads + Sync>(
+    rt: &R,
+    words: &[&str],
+    keys: &[u8],
+    status: u8,
+    text: &str,
+) -> Result<(), Fail> {
+    let mut files = files_of(rt, Vec::new(rt.alloc()), keys, b"old", b"x\n")?;
+    files.put("I.tmp", b"unfinished")?;
+    runs(rt, words, &mut files, status, text.as_bytes(), b"old")?;
+    assert_eq!(rt; files.get("I.tmp"), Some(b"unfinished".as_slice()));
+    assert_eq!(rt; files.get("K"), Some(keys));
     Ok(())
 }
 
@@ -177,16 +189,23 @@ fn each_call_of_a_query_may_fail(rt: HostRuntime) -> Result<(), Fail> {
 #[test]
 fn a_sink_that_fails_leaves_the_new_index(rt: HostRuntime) -> Result<(), Fail> {
     let whole = bytes_of(&rt, &INDEX)?;
-    for (keys, status, text, index) in [
-        (b"\n".as_slice(), 8, SUMMARY, whole.as_slice()),
-        (b"", 3, b"no keys\n", b"old"),
-    ] {
-        let words = texts(&rt, &["build", "K", "I"])?;
-        let mut files = files_of(&rt, Vec::new(rt.alloc()), keys, b"old", b"")?;
-        let mut out = MemSink::new(rt.alloc(), only(&rt, 0)?);
-        assert_eq!(&rt; run(&rt, rt.alloc(), &words, &mut files, &mut out), status);
-        assert_eq!(&rt; out.bytes(), &text[..text.len() / 2]);
-        assert_eq!(&rt; files.get("I"), Some(index));
-    }
+    shows_half(&rt, b"\n", 8, SUMMARY, &whole)?;
+    shows_half(&rt, b"", 3, b"no keys\n", b"old")
+}
+
+// A build into a sink that fails, with the status, the text of which half is there, and what I has afterwards.
+fn shows_half<R: Abort + AllocGlobal + Threads + Sync>(
+    rt: &R,
+    keys: &[u8],
+    status: u8,
+    text: &[u8],
+    index: &[u8],
+) -> Result<(), Fail> {
+    let words = texts(rt, &["build", "K", "I"])?;
+    let mut files = files_of(rt, Vec::new(rt.alloc()), keys, b"old", b"")?;
+    let mut out = MemSink::new(rt.alloc(), only(rt, 0)?);
+    assert_eq!(rt; run(rt, rt.alloc(), &words, &mut files, &mut out), status);
+    assert_eq!(rt; out.bytes(), &text[..text.len() / 2]);
+    assert_eq!(rt; files.get("I"), Some(index));
     Ok(())
 }
