@@ -7,7 +7,7 @@ ghost use Rattle.key_check.specs.Walks.{IsFor, HasWalked, marked_by};
 use crate::checked::Checked;
 use build_outcome::KeyMark;
 use index_file::Index;
-use murmur64::{HashPair, hash_pair};
+use murmur64::hash_pair;
 use std::alloc::{AllocError, Global};
 
 // What is kept of the lines that were walked: by value the number of the line that has it, 0 for none,
@@ -49,13 +49,14 @@ fn compare(kept: Option<KeyMark>, counted: KeyMark) -> Checked
     }
 }
 
-// The mark with one line more.
-fn more_marked(mark: KeyMark, pair: HashPair) -> KeyMark
-    ensures { result ≡ marked_by mark pair.a pair.b }
+// The mark with one line more, by its hashes.
+fn more_marked(mark: KeyMark, a: u64, b: u64) -> KeyMark
+    ensures { result ≡ marked_by mark a b }
 {
-    let sum = mark.sum.wrapping_add(pair.a);
-    let xor = mark.xor ^ pair.b;
-    KeyMark { sum, xor }
+    KeyMark {
+        sum: mark.sum.wrapping_add(a),
+        xor: mark.xor ^ b,
+    }
 }
 
 impl Walk {
@@ -98,7 +99,7 @@ impl Walk {
         }
         self.numbers[value] = number as u32;
         self.lines = number;
-        self.mark = more_marked(self.mark, pair);
+        self.mark = more_marked(self.mark, pair.a, pair.b);
         None
     }
 

@@ -94,4 +94,4 @@ returns-clause-walked c before walked same =
     let read : e ≡ get_or numbers v 0 = c.index-earlier.ensures ∙ same_inside numbers v e 0 within in
     walked_more x before c.args.line.now c.args.self.now _ v (c.args.self.now.lines + 1) c.hash_pair-pair.result.a c.hash_pair-pair.result.b walked
     (sym value ∙ c.in-Some.is) within (sym read ∙ c.if-earlier-ne0.false) refl
-    (h.a ∙ ap (first_hash c.args.line.now) c.requires.seed) (h.b ∙ ap (second_hash c.args.line.now) c.requires.seed) refl refl c.more_marked.ensures
+    (h.a ∙ ap (first_hash c.args.line.now) c.requires.seed) (h.b ∙ ap (second_hash c.args.line.now) c.requires.seed) refl refl c.more_marked-self.ensures
