@@ -1,5 +1,6 @@
 -- The keys of a demonstration are distinct: each step of the hash of eight bytes can be undone.
-use Rattle.std.specs.Prelude.{◌≡◌, ◌≢◌, ◌≤◌, ℕ, zero, suc, ◌+◌, ◌*◌, ◌/◌, ◌%◌, ◌^◌, ◌<◌, List, [], ◌∷◌, ◌++◌, length, map, bit_xor, Ok}
+use Rattle.std.specs.Prelude.{◌≡◌, ◌≢◌, ◌≤◌, ℕ, zero, suc, ◌+◌, ◌*◌, ◌/◌, ◌%◌, ◌^◌, ◌<◌, List}
+use Rattle.std.specs.Prelude.{[], ◌∷◌, ◌++◌, length, map, bit_xor, Ok}
 use Rattle.std.specs.Int.{w64, byte_at, bytes_high_first, to_le_bytes, to_be_bytes, from_be_bytes}
 use Rattle.std.specs.Int.Bits.{xor_assoc, xor_self, xor_zero_r, xor_shifted}
 use Rattle.std.proofs.Common.{get_or, add-one, refl, sym, ap, subst, ◌∙◌, arith}
@@ -91,7 +92,8 @@ block-same seed x y x_fits y_fits state same =
     (product-same (folded (p x)) (folded (p y)) (folded-lt (p x) (p_fits x)) (folded-lt (p y) (p_fits y)) inner))
 
 -- equal hashes of numbers are of equal numbers
-hash-same : (seed x y : ℕ) → seed < 2 ^ 64 → x < 2 ^ 64 → y < 2 ^ 64 → hash_of (to_le_bytes w64 x) seed ≡ hash_of (to_le_bytes w64 y) seed → x ≡ y
+hash-same : (seed x y : ℕ) → seed < 2 ^ 64 → x < 2 ^ 64 → y < 2 ^ 64 →
+    hash_of (to_le_bytes w64 x) seed ≡ hash_of (to_le_bytes w64 y) seed → x ≡ y
 unfolding pilot_hash
 hash-same seed x y seed_fits x_fits y_fits same =
     block-same seed x y x_fits y_fits (xor_lt 64 seed (product 8 MULTIPLIER) seed_fits (product-lt 8 MULTIPLIER))

@@ -35,7 +35,8 @@ value_in_part held a b q d part place within is =
     let parts = parts_data held.parts.items in
     let there : partition_of a b (length parts) ≡ q =
     ap (partition_of a b) (length-map held.parts.items part_data) ∙ sym place in
-    ap (λ (k : ℕ). option_map (λ v. key_count (take k parts) + v) (part_value held.shape.map held.seed (part_at parts (partition_of a b (length parts))) a b)) there
+    let here : PartData = part_at parts (partition_of a b (length parts)) in
+    ap (λ (k : ℕ). option_map (λ v. key_count (take k parts) + v) (part_value held.shape.map held.seed here a b)) there
     ∙ ap (λ (p : PartData). option_map (λ v. key_count (take q parts) + v) (part_value held.shape.map held.seed p a b))
     (pair_part held a b q d part place within is)
 

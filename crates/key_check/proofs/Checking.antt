@@ -1,5 +1,6 @@
 -- The check of the lines of a file, read one by one.
-use Rattle.std.specs.Prelude.{◌≡◌, ℕ, ◌+◌, ◌<◌, ◌≤◌, true, cond, List, [], ◌∷◌, ◌++◌, length, Option, Some, None, IfSome, ◌⊎◌}
+use Rattle.std.specs.Prelude.{◌≡◌, ℕ, ◌+◌, ◌<◌, ◌≤◌, true, cond, List, [], ◌∷◌, ◌++◌}
+use Rattle.std.specs.Prelude.{length, Option, Some, None, IfSome, ◌⊎◌}
 use Rattle.std.specs.Option.{unwrap_or, ForSome}
 use Rattle.std.proofs.Common.{refl, sym, ap, subst, ◌∙◌, arith, ⊎_elim}
 use Rattle.std.proofs.lemmas.Bool.{lt-ltb}
@@ -88,7 +89,8 @@ left_is x name told told' r walk lines so_far same left bytes is =
     ∙ ap (λ (ls : List (List ℕ)). so_far.before ++ ls) (subst L same left so_far.read.step bytes (ap (contents told) so_far.read.named ∙ is))
 
 -- a line that ends the check
-pub ends_at_line : (x : IndexData) (name line : List ℕ) (told told' : Option FileMap) (r r' : Reader) (walk : Walk) (found : Option Checked) (fault : Checked) →
+pub ends_at_line : (x : IndexData) (name line : List ℕ) (told told' : Option FileMap) (r r' : Reader) (walk : Walk) (found : Option Checked)
+    (fault : Checked) →
     CheckSoFar x name told r walk → told' ≡ told → HasLeft r told' (λ bytes. line ∷ lines_left r' bytes) →
     length line ≤ LONGEST_KEY → (r.ahead ≡ [] → IsThere told' r.name) →
     ((before : List (List ℕ)) → HasWalked x before walk → found ≡ fault_of_value x before (value_of x line)) →
@@ -130,7 +132,8 @@ long_end : (x : IndexData) (before left : List (List ℕ)) → HasPassed x befor
 long_end x before [] passed long = absurd long
 long_end x before (line ∷ left) passed long =
     passed_to x before (line ∷ left) passed
-    ∙ ap (λ b. unwrap_or (cond b (Some (TooLong (length before + 1))) (fault_of_value x before (value_of x line))) (checked_from x (before ++ line ∷ []) left))
+    ∙ ap (λ b. unwrap_or (cond b (Some (TooLong (length before + 1))) (fault_of_value x before (value_of x line)))
+    (checked_from x (before ++ line ∷ []) left))
     (lt-ltb LONGEST_KEY (length line) long)
 
 -- a line that is too long
@@ -143,5 +146,6 @@ ends_at_long x name told told' r r' walk line so_far same too =
     of_file told name (λ bytes. TooLong line ≡ checked x (keys_of bytes)) (there_now name told told' r so_far.before so_far.read same too.there)
     (λ bytes has.
     sym (ap (checked x) (so_far.read.all bytes has)
-    ∙ long_end x so_far.before (lines_left r bytes) so_far.passed (subst L same too.long so_far.read.step bytes (ap (contents told) so_far.read.named ∙ has))
+    ∙ long_end x so_far.before (lines_left r bytes) so_far.passed
+    (subst L same too.long so_far.read.step bytes (ap (contents told) so_far.read.named ∙ has))
     ∙ ap TooLong number))

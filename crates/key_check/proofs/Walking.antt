@@ -1,6 +1,8 @@
 -- The lines of a list walked one by one.
-use Rattle.std.specs.Prelude.{◌≡◌, ℕ, zero, suc, ◌+◌, ◌<◌, ◌≤◌, ◌==◌, ◌||◌, ◌&&◌, ◌%◌, ◌^◌, nat_lt, Bool, true, false, cond}
-use Rattle.std.specs.Prelude.{List, [], ◌∷◌, ◌++◌, length, map, slice_set, sum_by, bit_xor, Option, Some, None, IfSome, IsSomeAnd, All, option_map, replicate}
+use Rattle.std.specs.Prelude.{◌≡◌, ℕ, zero, suc, ◌+◌, ◌<◌, ◌≤◌, ◌==◌, ◌||◌, ◌&&◌, ◌%◌}
+use Rattle.std.specs.Prelude.{◌^◌, nat_lt, Bool, true, false, cond}
+use Rattle.std.specs.Prelude.{List, [], ◌∷◌, ◌++◌, length, map, slice_set, sum_by, bit_xor, Option, Some}
+use Rattle.std.specs.Prelude.{None, IfSome, IsSomeAnd, All, option_map, replicate}
 use Rattle.std.specs.List.{position_from}
 use Rattle.std.specs.Option.{option_or, unwrap_or}
 use Rattle.std.specs.Int.Bits.{xor_assoc, xor_zero_l, xor_zero_r}
@@ -50,7 +52,7 @@ position_from-push test i [] x = let same : i ≡ i + 0 = omega arith in ap (λ 
 position_from-push test i (y ∷ ys) x =
     let same : i + 1 + length ys ≡ i + suc (length ys) = omega arith in
     elim (test y) as (λ b. cond b (Some i) (position_from test (i + 1) (ys ++ x ∷ []))
-        ≡ option_or (cond b (Some i) (position_from test (i + 1) ys)) (cond (test x) (Some (i + suc (length ys))) None)) [
+    ≡ option_or (cond b (Some i) (position_from test (i + 1) ys)) (cond (test x) (Some (i + suc (length ys))) None)) [
       | true ↦ refl
       | false ↦ position_from-push test (i + 1) ys x ∙ ap (λ n. option_or (position_from test (i + 1) ys) (cond (test x) (Some n) None)) same
     ]
@@ -111,7 +113,8 @@ entries_more x before line v number numbers has within free counted first w insi
     (cases_eq v w)
 
 -- the xor with one line more
-xor_more : (lines : List (List ℕ)) (line : List ℕ) (seed : ℕ) → xor_of (lines ++ line ∷ []) seed ≡ bit_xor (xor_of lines seed) (second_hash line seed)
+xor_more : (lines : List (List ℕ)) (line : List ℕ) (seed : ℕ) →
+    xor_of (lines ++ line ∷ []) seed ≡ bit_xor (xor_of lines seed) (second_hash line seed)
 xor_more [] line seed = xor_zero_r (second_hash line seed) ∙ sym (xor_zero_l (second_hash line seed))
 xor_more (l ∷ lines) line seed =
     ap (bit_xor (second_hash l seed)) (xor_more lines line seed) ∙ sym (xor_assoc (second_hash l seed) (xor_of lines seed) (second_hash line seed))
@@ -129,7 +132,8 @@ mark_more : (lines : List (List ℕ)) (line : List ℕ) (seed a b : ℕ) → a �
 unfolding mark_of
 mark_more lines line seed a b first second =
     let sum = sum_more lines line seed (sum_by (λ l. first_hash l seed) lines % 2 ^ 64) a first refl in
-    let xor : bit_xor (xor_of lines seed) b ≡ xor_of (lines ++ line ∷ []) seed = ap (bit_xor (xor_of lines seed)) second ∙ sym (xor_more lines line seed) in
+    let xor : bit_xor (xor_of lines seed) b ≡ xor_of (lines ++ line ∷ []) seed =
+    ap (bit_xor (xor_of lines seed)) second ∙ sym (xor_more lines line seed) in
     λ i. record { sum = sum i; xor = xor i }
 
 -- the mark of no line
@@ -283,7 +287,8 @@ pub one_to_one-none : (x : IndexData) → IsOneToOne x []
 one_to_one-none x = record { below = All-nil (λ key. IsSomeAnd (value_of x key) (λ value. value < x.n)); distinct = refl }
 
 -- one line more, with a value that no line before has
-pub one_to_one-more : (x : IndexData) (before : List (List ℕ)) (line : List ℕ) (v : ℕ) → IsOneToOne x before → value_of x line ≡ Some v → v < x.n →
+pub one_to_one-more : (x : IndexData) (before : List (List ℕ)) (line : List ℕ) (v : ℕ) → IsOneToOne x before → value_of x line ≡ Some v →
+    v < x.n →
     first_with x v before ≡ None → IsOneToOne x (before ++ line ∷ [])
 one_to_one-more x before line v so_far has below none =
     let P : List ℕ → Type 0 = λ key. IsSomeAnd (value_of x key) (λ value. value < x.n) in
@@ -341,7 +346,8 @@ good_end x lines mark one few is = by_count (nat_lt (length lines) x.n) refl is
         record { one_to_one = one; all = omega arith; marked = ends.0; kept = ends.1 }
 
 -- no line before its end makes a check good
-pub fault-good : (x : IndexData) (before : List (List ℕ)) (value : Option ℕ) (mark : KeyMarkData) → fault_of_value x before value ≡ Some (Good mark) → ⊥
+pub fault-good : (x : IndexData) (before : List (List ℕ)) (value : Option ℕ) (mark : KeyMarkData) →
+    fault_of_value x before value ≡ Some (Good mark) → ⊥
 fault-good x before None mark is = absurd cc
 fault-good x before (Some v) mark is = by_first (first_with x v before) is
   where
@@ -361,7 +367,8 @@ pub no_value_here : (x : IndexData) (before : List (List ℕ)) (line : List ℕ)
 no_value_here x before line walk walked none = ap (λ n. Some (NoValue (n + 1))) walked.count ∙ ap (fault_of_value x before) (sym none)
 
 -- a line with the value of an earlier one ends the check
-pub repeat_here : (x : IndexData) (before : List (List ℕ)) (line : List ℕ) (walk : Walk) (v e : ℕ) → HasWalked x before walk → value_of x line ≡ Some v →
+pub repeat_here : (x : IndexData) (before : List (List ℕ)) (line : List ℕ) (walk : Walk) (v e : ℕ) → HasWalked x before walk →
+    value_of x line ≡ Some v →
     v < length walk.numbers.items → e ≡ get_or walk.numbers.items v 0 → (e ≡ 0 → ⊥) →
     Some (Repeats (walk.lines + 1) e) ≡ fault_of_value x before (value_of x line)
 repeat_here x before line walk v e walked has within is other =
@@ -370,7 +377,8 @@ repeat_here x before line walk v e walked has within is other =
     ∙ ap (option_map (λ earlier. Repeats (length before + 1) earlier)) (sym some) ∙ ap (fault_of_value x before) (sym has)
 
 -- a line with a value of its own doesn't
-pub own_here : (x : IndexData) (before : List (List ℕ)) (line : List ℕ) (walk : Walk) (v : ℕ) → HasWalked x before walk → value_of x line ≡ Some v →
+pub own_here : (x : IndexData) (before : List (List ℕ)) (line : List ℕ) (walk : Walk) (v : ℕ) → HasWalked x before walk →
+    value_of x line ≡ Some v →
     v < length walk.numbers.items → get_or walk.numbers.items v 0 ≡ 0 → None ≡ fault_of_value x before (value_of x line)
 own_here x before line walk v walked has within free =
     let none : first_with x v before ≡ None = first_with-none x v before (sym free ∙ walked.first v within) in

@@ -1,5 +1,6 @@
 -- What is kept of the lines that a check has walked.
-use Rattle.std.specs.Prelude.{◌≡◌, ℕ, ◌+◌, ◌≤◌, ◌<◌, ◌==◌, ◌%◌, ◌^◌, List, length, slice_index_or, sum_by, bit_xor, if◌then◌else◌}
+use Rattle.std.specs.Prelude.{◌≡◌, ℕ, ◌+◌, ◌≤◌, ◌<◌, ◌==◌, ◌%◌, ◌^◌, List}
+use Rattle.std.specs.Prelude.{length, slice_index_or, sum_by, bit_xor, if◌then◌else◌}
 use Rattle.std.specs.Option.{unwrap_or}
 use Rattle.pthash.specs.declared.TheConstants.{MAX_KEYS}
 use Rattle.build_outcome.specs.Index.{KeyMarkData, IndexData}

@@ -14,6 +14,7 @@ const EMPTY: KeyMark = KeyMark {
     sum: 0xc6a4_a793_5bd0_64dc,
     xor: 0x777d_efef_88a7_076e,
 };
+
 const X: KeyMark = KeyMark {
     sum: 0x9a5d_b2cd_2c1f_d6ce,
     xor: 0x3fc2_3ca7_2b33_222a,
@@ -46,7 +47,9 @@ fn built<R: Abort + AllocGlobal + Threads + Sync>(
         how: How::Alone,
     };
     let mut files = with_lines(rt.alloc(), lines)?;
-    let keys = read_keys(rt.alloc(), &mut files, "lines", 100).ok().ok_or("no keys")?;
+    let keys = read_keys(rt.alloc(), &mut files, "lines", 100)
+        .ok()
+        .ok_or("no keys")?;
     assert!(rt; 1 <= keys.len());
     match build_keys(rt, rt.alloc(), &keys, &settings) {
         Ok(index) => Ok(index),
@@ -78,12 +81,18 @@ fn checks<R: Abort + AllocGlobal + Threads + Sync>(
         back: Some(Code::Dict),
     };
     let mut file = Vec::new(rt.alloc());
-    write_index(&built(rt, keys, parts)?, enc, &mut file).ok().ok_or("memory")?;
+    write_index(&built(rt, keys, parts)?, enc, &mut file)
+        .ok()
+        .ok_or("memory")?;
     let second = read_index(rt.alloc(), &file)?;
     let first = read_index(rt.alloc(), &unmarked(rt, rt.alloc(), &file)?)?;
     let mut files = with_lines(rt.alloc(), lines)?;
-    let found = check_keys(rt.alloc(), &second, &mut files, "lines").ok().ok_or("fault")?;
-    let before = check_keys(rt.alloc(), &first, &mut files, "lines").ok().ok_or("fault")?;
+    let found = check_keys(rt.alloc(), &second, &mut files, "lines")
+        .ok()
+        .ok_or("fault")?;
+    let before = check_keys(rt.alloc(), &first, &mut files, "lines")
+        .ok()
+        .ok_or("fault")?;
     Ok((found, before))
 }
 
@@ -93,13 +102,55 @@ const FIVE: &[u8] = b"k0\nk1\nk2\nk3\nk4\n";
 fn lines_that_end_a_check_are_those_of_an_independent_program(rt: HostRuntime) -> Result<(), Fail> {
     let letters = b"a\nb\nc\nd\ne\nf\n".as_slice();
     for (keys, parts, lines, want) in [
-        (b"\n".as_slice(), 1, b"".as_slice(), Checked::Counts { n: 1, lines: 0 }),
-        (b"\n", 1, b"\n\n", Checked::Repeats { line: 2, earlier: 1 }),
+        (
+            b"\n".as_slice(),
+            1,
+            b"".as_slice(),
+            Checked::Counts { n: 1, lines: 0 },
+        ),
+        (
+            b"\n",
+            1,
+            b"\n\n",
+            Checked::Repeats {
+                line: 2,
+                earlier: 1,
+            },
+        ),
         (b"\n", 8, letters, Checked::NoValue { line: 1 }),
-        (FIVE, 1, letters, Checked::Repeats { line: 4, earlier: 2 }),
-        (FIVE, 1, b"k0\nk1\nk2\nk3\n", Checked::Counts { n: 5, lines: 4 }),
-        (FIVE, 1, b"k0\nk1\nk2\nk3\nk4\nk0\n", Checked::Repeats { line: 6, earlier: 1 }),
-        (FIVE, 1, b"k0\nk0\nk1\nk2\nk3\nk4\n", Checked::Repeats { line: 2, earlier: 1 }),
+        (
+            FIVE,
+            1,
+            letters,
+            Checked::Repeats {
+                line: 4,
+                earlier: 2,
+            },
+        ),
+        (
+            FIVE,
+            1,
+            b"k0\nk1\nk2\nk3\n",
+            Checked::Counts { n: 5, lines: 4 },
+        ),
+        (
+            FIVE,
+            1,
+            b"k0\nk1\nk2\nk3\nk4\nk0\n",
+            Checked::Repeats {
+                line: 6,
+                earlier: 1,
+            },
+        ),
+        (
+            FIVE,
+            1,
+            b"k0\nk0\nk1\nk2\nk3\nk4\n",
+            Checked::Repeats {
+                line: 2,
+                earlier: 1,
+            },
+        ),
     ] {
         let (found, before) = checks(&rt, keys, parts, lines)?;
         assert_eq!(rt; found, want, "{lines:?}");
@@ -149,7 +200,9 @@ fn each_failing_read_is_a_fault(rt: HostRuntime) -> Result<(), Fail> {
         front: Code::Compact,
         back: None,
     };
-    write_index(&built(&rt, FIVE, 1)?, enc, &mut file).ok().ok_or("memory")?;
+    write_index(&built(&rt, FIVE, 1)?, enc, &mut file)
+        .ok()
+        .ok_or("memory")?;
     let index = read_index(rt.alloc(), &file)?;
     for number in 0..2u64 {
         let mut files = MemFiles::new(rt.alloc(), vec![in rt.alloc(); number]?, 100);

@@ -81,7 +81,8 @@ impl Walk {
         ensures below { IfSome (value_of index.now.index line.now) (λ v. v < index.now.index.n) }
         ensures fault { (before : List (List ℕ)) → HasWalked index.now.index before self.old →
             result ≡ fault_of_value index.now.index before (value_of index.now.index line.now) }
-        ensures walked { (before : List (List ℕ)) → HasWalked index.now.index before self.old →
+        ensures walked { (before : List (List ℕ)) →
+            HasWalked index.now.index before self.old →
             result ≡ None → HasWalked index.now.index (before ++ line.now ∷ []) self.new }
     {
         let number = self.lines + 1;

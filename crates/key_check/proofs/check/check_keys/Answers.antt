@@ -26,7 +26,8 @@ returns-in-Some-clause-ok g c =
     (c.in-Ok-Got.ensures.got (ap Ok c.in-Ok-Got.field-0-is)) in
     ends_at_line x c.args.name.now line (g.F.Files.state c.args.files.now).told told c.loop-walk.reader c.next_line.new.self c.loop-walk.walk
     c.take_line.result c.in-Some.fault kept.2 kept.0.told got
-    (omega (arith, c.in-Ok-Got.ensures.short, c.next_line.new.into.ok.0, ap length c.deref.ensures.value)) c.in-Ok-Got.ensures.there c.take_line.ensures.fault c.in-Some.is
+    (omega (arith, c.in-Ok-Got.ensures.short, c.next_line.new.into.ok.0, ap length c.deref.ensures.value)) c.in-Ok-Got.ensures.there
+    c.take_line.ensures.fault c.in-Some.is
 
 pub loop-walk-preserved : goal.loop-walk-preserved
 loop-walk-preserved g c =

@@ -11,7 +11,8 @@ returns-in-None-clause-below c =
     let x = c.args.index.now.index in
     let h = c.hash_pair-pair.ensures in
     subst (λ o. IfSome o (λ v. v < x.n))
-    (c.lookup_pair.ensures.value ∙ value_of-pair x c.args.line.now c.args.self.now.seed c.hash_pair-pair.result.a c.hash_pair-pair.result.b c.requires.seed h.a h.b)
+    (c.lookup_pair.ensures.value
+    ∙ value_of-pair x c.args.line.now c.args.self.now.seed c.hash_pair-pair.result.a c.hash_pair-pair.result.b c.requires.seed h.a h.b)
     c.lookup_pair.ensures.below
 
 pub returns-in-None-clause-fault : goal.returns-in-None-clause-fault
@@ -27,7 +28,8 @@ returns-then-earlier-ne0-clause-below c =
     let x = c.args.index.now.index in
     let h = c.hash_pair-pair.ensures in
     subst (λ o. IfSome o (λ v. v < x.n))
-    (c.lookup_pair.ensures.value ∙ value_of-pair x c.args.line.now c.args.self.now.seed c.hash_pair-pair.result.a c.hash_pair-pair.result.b c.requires.seed h.a h.b)
+    (c.lookup_pair.ensures.value
+    ∙ value_of-pair x c.args.line.now c.args.self.now.seed c.hash_pair-pair.result.a c.hash_pair-pair.result.b c.requires.seed h.a h.b)
     c.lookup_pair.ensures.below
 
 pub returns-then-earlier-ne0-clause-fault : goal.returns-then-earlier-ne0-clause-fault
@@ -51,7 +53,8 @@ returns-clause-below c =
     let x = c.args.index.now.index in
     let h = c.hash_pair-pair.ensures in
     subst (λ o. IfSome o (λ v. v < x.n))
-    (c.lookup_pair.ensures.value ∙ value_of-pair x c.args.line.now c.args.self.now.seed c.hash_pair-pair.result.a c.hash_pair-pair.result.b c.requires.seed h.a h.b)
+    (c.lookup_pair.ensures.value
+    ∙ value_of-pair x c.args.line.now c.args.self.now.seed c.hash_pair-pair.result.a c.hash_pair-pair.result.b c.requires.seed h.a h.b)
     c.lookup_pair.ensures.below
 
 pub returns-clause-fits : goal.returns-clause-fits
