@@ -6,6 +6,7 @@ pub mod ListSteps
 pub mod PartitionSteps
 pub mod Whole
 pub mod Looked
+pub mod PairValues
 pub mod Written
 pub mod BuiltWritten
 pub mod CallerLemmas

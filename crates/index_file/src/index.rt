@@ -22,7 +22,7 @@ use std::marker::Model;
 /// An index that was read: a contract sees the index with its encoding.
 #[derive(Drop)]
 pub struct Index {
-    held: Held,
+    pub(crate) held: Held,
     bytes: u64,
 }
 

@@ -7,6 +7,7 @@ mod fields;
 mod held;
 mod index;
 mod lists;
+mod pairs;
 mod partitions;
 mod reading;
 mod spread;
