@@ -14,9 +14,9 @@ use Rattle.build_outcome.specs.Index.{KeyMarkData, IndexData}
 use Rattle.build_outcome.specs.IndexLaws.{IsOneToOne}
 use Rattle.build_outcome.specs.Values.{value_of}
 use Rattle.key_check.specs.declared.checked.Checked.{Checked}
-use Rattle.key_check.specs.declared.checked.Checked.TheVariants.{Good, TooLong, NoValue, Repeats}
+use Rattle.key_check.specs.declared.checked.Checked.TheVariants.{Good, TooLong, Repeats}
 use Rattle.key_check.specs.declared.walk.Walk.{Walk}
-use Rattle.key_check.specs.Checked.{first_with, fault_of_value, fault_of_line, after_all, checked_from, checked}
+use Rattle.key_check.specs.Checked.{first_with, fault_of_value, after_all, checked_from, checked}
 use Rattle.key_check.specs.Walks.{IsFor, HasWalked}
 use Rattle.key_check.specs.Meaning.{IsGood}
 use Rattle.key_check.proofs.Walking.{HasPassed, HasPassed-none, HasPassed-more, passed_to, checked-fault, lines-le}

@@ -1,9 +1,7 @@
-use Rattle.std.specs.Prelude.{◌≡◌, ◌≤◌, ℕ, List, [], ◌∷◌, length, Option, Some, None, Ok, Err}
-use Rattle.std.proofs.Common.{refl, sym, ap, subst, ◌∙◌, arith}
-use Rattle.pth_outside.specs.declared.line_reader.LineErr.TheVariants.{TooLong}
+use Rattle.std.specs.Prelude.{ℕ, List, ◌∷◌, length, Ok, Err}
+use Rattle.std.proofs.Common.{sym, ap, subst, arith}
 use Rattle.pth_outside.specs.FilesLaws.{ReadsFiles-none, ReadsFiles-ok, ReadsFiles-then}
 use Rattle.pth_outside.specs.Reading.{HasLeft, lines_left}
-use Rattle.key_check.specs.Checked.{after_all}
 use Rattle.key_check.proofs.Checking.{first_so_far, next_so_far, ends_at_line, ends_at_end, ends_good, ends_at_long}
 use Rattle.key_check.proofs.check.check_keys.Goals as goal
 

@@ -1,4 +1,4 @@
-use Rattle.std.proofs.Common.{◌+◌, ◌-◌}
+use Rattle.std.proofs.Common.{◌-◌}
 use Rattle.pth_outside.specs.Files.{ReadsFiles}
 use Rattle.key_check.specs.Walks.{IsFor}
 use Rattle.key_check.proofs.Checking.{CheckSoFar}

@@ -1,4 +1,4 @@
-use Rattle.std.specs.Prelude.{◌≡◌, ◌≤◌}
+use Rattle.std.specs.Prelude.{◌≤◌}
 use Rattle.std.proofs.Common.{◌∙◌, arith}
 use Rattle.key_check.proofs.Walking.{end_is}
 use Rattle.key_check.proofs.walk.Walk.end.Goals as goal

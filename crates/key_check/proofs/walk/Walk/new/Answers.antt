@@ -1,4 +1,4 @@
-use Rattle.std.specs.Prelude.{◌≡◌, ℕ, replicate}
+use Rattle.std.specs.Prelude.{ℕ, replicate}
 use Rattle.std.proofs.Common.{refl, ap, ◌∙◌}
 use Rattle.key_check.proofs.Walking.{walked_none}
 use Rattle.key_check.proofs.walk.Walk.new.Goals as goal

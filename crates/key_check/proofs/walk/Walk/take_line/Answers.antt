@@ -1,7 +1,7 @@
-use Rattle.std.specs.Prelude.{◌≡◌, ◌+◌, ◌≤◌, ◌<◌, ℕ, List, length, Option, Some, None, IfSome}
+use Rattle.std.specs.Prelude.{◌≡◌, ◌+◌, ◌<◌, length, Some, IfSome}
 use Rattle.std.proofs.Common.{get_or, refl, sym, ap, subst, ◌∙◌, arith}
 use Rattle.pthash.specs.Hash.{first_hash, second_hash}
-use Rattle.build_outcome.specs.Values.{pair_value, value_of}
+use Rattle.build_outcome.specs.Values.{value_of}
 use Rattle.key_check.specs.declared.checked.Checked.TheVariants.{Repeats}
 use Rattle.key_check.proofs.Walking.{value_of-pair, no_value_here, repeat_here, own_here, for_more, walked_more, same_inside}
 use Rattle.key_check.proofs.walk.Walk.take_line.Goals as goal
