@@ -1,5 +1,5 @@
 -- The encodings that are tried, in their order.
-use Rattle.std.specs.Prelude.{List, ◌++◌, map, Option, Some, None}
+use Rattle.std.specs.Prelude.{List, ◌++◌, map, Some, None}
 use Rattle.std.specs.List.{flat_map}
 use Rattle.pilot_codecs.specs.declared.code.Code.{Code}
 use Rattle.pilot_codecs.specs.declared.code.Encoding.{Encoding}

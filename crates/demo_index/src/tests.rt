@@ -43,7 +43,11 @@ fn tried<R: Abort + AllocGlobal + Threads + Sync>(
     assert!(rt; 1 <= keys.len());
     assert!(rt; keys.len() <= 1_000_000);
     match build_keys(rt, rt.alloc(), &keys, &settings) {
-        Ok(index) => Ok(try_encodings(rt.alloc(), &index, &keys).ok().ok_or("memory")?),
+        Ok(index) => Ok(
+            try_encodings(rt.alloc(), &index, &keys)
+                .ok()
+                .ok_or("memory")?,
+        ),
         Err(_) => panic!(rt; "no index"),
     }
 }

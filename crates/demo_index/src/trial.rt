@@ -85,11 +85,7 @@ fn try_encoding(
 /// Writes an index in each encoding to memory, reads it again, and adds up the values of the keys: each
 /// code alone, then each pair of a front and a back code, the back code changing fastest. The files come
 /// one after another into one buffer.
-pub fn try_encodings(
-    alloc: Global,
-    built: &Built,
-    keys: &KeyList,
-) -> Result<Vec<Tried>, NoMemory>
+pub fn try_encodings(alloc: Global, built: &Built, keys: &KeyList) -> Result<Vec<Tried>, NoMemory>
     requires { length keys.now ≤ MAX_KEYS }
     ensures { IfOk result (λ tried.
         tried.items ≡ map (tried_of built.now keys.now) all_encodings) }

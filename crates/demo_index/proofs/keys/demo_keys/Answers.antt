@@ -1,7 +1,7 @@
-use Rattle.std.specs.Prelude.{◌≡◌, ◌≤◌, ◌++◌, ◌∷◌, [], ℕ, suc, ◌+◌, List, length, map}
-use Rattle.std.proofs.Common.{refl, sym, ap, ◌∙◌, subst, arith}
+use Rattle.std.specs.Prelude.{◌≡◌, ◌++◌, ◌∷◌, [], length}
+use Rattle.std.proofs.Common.{sym, ap, ◌∙◌, subst, arith}
 use Rattle.build_outcome.specs.BuiltLaws.{AreDistinctKeys}
-use Rattle.demo_index.specs.Keys.{demo_key, demo_keys_of}
+use Rattle.demo_index.specs.Keys.{demo_keys_of}
 use Rattle.demo_index.proofs.DistinctKeys.{demo_keys-none, demo_keys-more, length-demo_keys, demo_keys-distinct}
 use Rattle.demo_index.proofs.keys.demo_keys.Goals as goal
 
