@@ -1,0 +1,2 @@
+pub mod DistinctKeys
+pub mod Lists
