@@ -1,7 +1,7 @@
 -- Groups of neighbouring partitions: where they begin, and what they come to.
 use Rattle.std.proofs.Common.{◌≡◌, ℕ, zero, suc, ◌+◌, ◌-◌, ◌<◌, ◌≤◌, List, [], ◌∷◌, ◌++◌, length, get_or, Result, Ok, Err}
 use Rattle.std.proofs.Common.{refl, sym, ap, ◌∙◌, subst, arith, ⊎_elim}
-use Rattle.std.specs.Prelude.{slice_index, slice_index_or, IfOk, IfErr, Vec}
+use Rattle.std.specs.Prelude.{slice_index, slice_index_or, IfOk, Vec}
 use Rattle.std.proofs.lemmas.Bool.{cases_lt}
 use Rattle.std.proofs.lemmas.List.{length-append, get_or_append_left, get_or-append-add, append_assoc}
 use Rattle.pthash.specs.declared.Record.{Record}
@@ -12,8 +12,10 @@ use Rattle.build_outcome.specs.OnePart.{one_part, part_of-one_part}
 use Rattle.build_outcome.specs.Ranges.{joined, joined-nil, joined-done, joined_assoc, parts_between, parts_between-all, parts_between-none}
 use Rattle.build_outcome.specs.Ranges.{parts_between-cons, parts_between-joined}
 use Rattle.pilot_search.specs.declared.placing.Stuck.{Stuck}
-use Rattle.part_function.specs.Answers.{IsPartStuckAt}
+use Rattle.part_function.specs.Answers.{IsPartAnswer}
+use Rattle.settings.specs.Settings.{SettingsData}
 use Rattle.hem_build.specs.Answers.{part_data, group_data, AreGroupAnswers}
+use Rattle.hem_build.specs.Rules.{one_rule}
 use Rattle.hem_build.specs.Starts.{AreGroupStarts}
 use Rattle.hem_build.specs.declared.groups.StuckPart.{StuckPart}
 
@@ -104,13 +106,12 @@ groups_done groups partitions next starts some so_far =
     }
 
 -- what the build of some records answers, as one equation
-pub part_answer : (rules : Rules) (seed : ℕ) (records : List Record) (result : Result (Result PartData Stuck) Want) →
-    IfOk result (λ answer. IfOk answer (λ part. part_of rules seed records ≡ Ok part)) →
-    IfOk result (λ answer. IfErr answer (λ stuck. IsPartStuckAt rules seed records stuck)) →
-    IfOk result (λ answer. part_data answer ≡ part_of rules seed records)
-part_answer rules seed records (Ok (Ok part)) is stuck = sym is
-part_answer rules seed records (Ok (Err place)) is stuck = sym stuck.no_part
-part_answer rules seed records (Err want) is stuck = tt
+pub part_answer : (s : SettingsData) (seed : ℕ) (records : List Record) (result : Result (Result PartData Stuck) Want) →
+    IfOk result (λ answer. IsPartAnswer s.shape s.limit seed records answer) →
+    IfOk result (λ answer. part_data answer ≡ part_of (one_rule s) seed records)
+part_answer s seed records (Ok (Ok part)) is = sym is.part
+part_answer s seed records (Ok (Err place)) is = sym is.stuck.no_part
+part_answer s seed records (Err want) is = tt
 
 -- a range of partitions is what was built of it, before what is left from a place on
 abbrev pub IsBuiltTo : Rules → ℕ → List (List Record) → ℕ → ℕ → ℕ → List PartData → Type 0

@@ -1,9 +1,7 @@
 use Rattle.settings.specs.Settings.{settings_data}
 use Rattle.hem_build.proofs.Grouping.{part_answer}
-use Rattle.hem_build.specs.Rules.{one_rule}
 use Rattle.hem_build.proofs.groups.build_records.Goals as goal
 
 pub returns : goal.returns
 returns g c =
-    part_answer (one_rule (settings_data c.args.settings.now)) c.args.seed c.args.records.now c.build_part_with.result c.build_part_with.ensures.part
-    c.build_part_with.ensures.stuck
+    part_answer (settings_data c.args.settings.now) c.args.seed c.args.records.now c.build_part_with.result c.build_part_with.ensures
