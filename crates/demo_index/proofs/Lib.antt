@@ -1,2 +1,0 @@
-pub mod DistinctKeys
-pub mod Lists
