@@ -94,17 +94,27 @@ enough=
 for ((step = 1; step < 4096 && ${enough:-0} == 0; step++)); do
   (ulimit -v $((step * 8192)); exec "$program" build new.keys measured) >/dev/null 2>&1 && enough=$((step * 8192))
 done
+# Whether the program starts in so many KiB: it then refuses to do nothing, or has no memory for that.
+starts_in() {
+  (ulimit -v "$1"; exec "$program") >/dev/null 2>&1
+  case $? in 1 | 9) return 0 ;; *) return 1 ;; esac
+}
+
 statuses=
 for ((step = 1; step <= 20; step++)); do
+  limit=$((enough * step / 20))
   cp old I
-  (ulimit -v $((enough * step / 20)); exec "$program" build new.keys I) >/dev/null 2>&1
+  (ulimit -v $limit; exec "$program" build new.keys I) >/dev/null 2>&1
   end=$?
-  # 126 and 127: the program could not be started.
+  if ! starts_in $limit; then
+    check "the index with no start" "$(which_index I)" old
+    statuses="$statuses -"
+    continue
+  fi
   case $end in
     0) check "the index with enough memory" "$(which_index I)" new ;;
     9) check "the index without memory" "$(case $(which_index I) in old | new) echo whole ;; esac)" whole ;;
-    126 | 127) check "the index with no start" "$(which_index I)" old ;;
-    *) check "a build in $((enough * step / 20)) KiB" "$end" "0 or 9" ;;
+    *) check "a build in $limit KiB" "$end" "0 or 9" ;;
   esac
   statuses="$statuses $end"
 done
