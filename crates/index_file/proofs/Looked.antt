@@ -2,6 +2,7 @@
 use Rattle.std.specs.Prelude.{◌≡◌, ℕ, zero, suc, ◌+◌, ◌*◌, ◌<◌, ◌≤◌}
 use Rattle.std.specs.Prelude.{List, [], ◌∷◌, length, take, drop}
 use Rattle.std.specs.Prelude.{Option, Some, None, sum_by}
+use Rattle.std.specs.Global.{Box}
 use Rattle.std.proofs.Common.{get_or, refl, sym, ap, ◌∙◌, subst, drop-cons, add-one, arith}
 use Rattle.std.proofs.Math.Nat.{mod-lt}
 use Rattle.std.proofs.lemmas.List.{length-map, get_or-map}
@@ -50,7 +51,7 @@ start_is held q d beside within =
     ∙ Rattle.std.proofs.Common.zero-add (key_count (take q parts))
 
 -- a partition that is kept
-part_is : (parts : List (Option Lists)) (q : ℕ) (d part : Option Lists) → q < length parts → get_or parts q d ≡ part →
+part_is : (parts : List (Option (Box Lists))) (q : ℕ) (d part : Option (Box Lists)) → q < length parts → get_or parts q d ≡ part →
     part_at (parts_data parts) q ≡ part_data part
 part_is parts q d part within is = get_or-map part_data parts q d (record { n = 0; pilots = []; free = [] }) within ∙ ap part_data is
 
@@ -59,14 +60,16 @@ position-lt : (lists : Lists) (spread : Map) (seed a b : ℕ) → pair_position 
 position-lt lists spread seed a b = let some = lists.some in mod-lt _ (omega arith)
 
 -- the value in a partition, behind the partitions before, is below the number of keys
-pub value_fits : (held : Held) (q : ℕ) (d : Option Lists) (lists : Lists) (a b : ℕ) → IsValidIndex (held_data held) → q < length held.parts.items →
-    get_or held.parts.items q d ≡ Some lists →
-    key_count (take q (parts_data held.parts.items)) + position_value lists.n lists.free (pair_position held.shape.map held.seed (lists_data lists) a b)
+pub value_fits : (held : Held) (q : ℕ) (d : Option (Box Lists)) (boxed : Box Lists) (a b : ℕ) → IsValidIndex (held_data held) →
+    q < length held.parts.items → get_or held.parts.items q d ≡ Some boxed →
+    key_count (take q (parts_data held.parts.items))
+    + position_value boxed.value.n boxed.value.free (pair_position held.shape.map held.seed (lists_data boxed.value) a b)
     < held.n
-value_fits held q d lists a b valid within is =
+value_fits held q d boxed a b valid within is =
+    let lists : Lists = boxed.value in
     let parts = parts_data held.parts.items in
     let inside : q < length parts = omega (arith, length-map held.parts.items part_data) in
-    let part = part_is held.parts.items q d (Some lists) within is in
+    let part = part_is held.parts.items q d (Some boxed) within is in
     let shape = (held_data held).shape in
     let here : IsValidPart shape (part_at parts q) = valid.parts q (record { n = 0; pilots = []; free = [] }) inside in
     let good : IsValidPart shape (lists_data lists) = subst (IsValidPart shape) part here in
@@ -76,26 +79,26 @@ value_fits held q d lists a b valid within is =
     omega (arith, key_count-take parts q inside, valid.counted)
 
 -- a sum over the first partitions and those that come
-pub sums_more : (f : PartData → ℕ) (parts : List (Option Lists)) (i total here all : ℕ) → i < length parts →
+pub sums_more : (f : PartData → ℕ) (parts : List (Option (Box Lists))) (i total here all : ℕ) → i < length parts →
     here ≡ f (part_data (get_or parts i None)) →
     total + sum_by f (parts_data (drop i parts)) ≡ all → (total + here) + sum_by f (parts_data (drop (i + 1) parts)) ≡ all
 sums_more f parts i total here all within is so_far =
     let next : drop i parts ≡ get_or parts i None ∷ drop (i + 1) parts =
     drop-cons parts i None within ∙ ap (λ (k : ℕ). get_or parts i None ∷ drop k parts) (sym (add-one i)) in
-    let sums = ap (λ (ps : List (Option Lists)). sum_by f (parts_data ps)) next in
+    let sums = ap (λ (ps : List (Option (Box Lists))). sum_by f (parts_data ps)) next in
     omega (arith, sum_by-cons f (part_data (get_or parts i None)) (parts_data (drop (i + 1) parts)))
 
 -- all partitions
-pub sums_all : (f : PartData → ℕ) (parts : List (Option Lists)) (i total all : ℕ) → length parts ≤ i →
+pub sums_all : (f : PartData → ℕ) (parts : List (Option (Box Lists))) (i total all : ℕ) → length parts ≤ i →
     total + sum_by f (parts_data (drop i parts)) ≡ all → total ≡ all
 sums_all f parts i total all past so_far =
     let none : drop i parts ≡ [] = Rattle.std.proofs.lemmas.List.nil_from_length (drop i parts)
     (omega (arith, Rattle.std.proofs.lemmas.List.length-drop i parts)) in
-    let sums = ap (λ (ps : List (Option Lists)). sum_by f (parts_data ps)) none in
+    let sums = ap (λ (ps : List (Option (Box Lists))). sum_by f (parts_data ps)) none in
     omega arith
 
 -- the sums over the first i partitions
-pub record AreSums (parts : List (Option Lists)) (i size buckets free : ℕ) : Type 0 where
+pub record AreSums (parts : List (Option (Box Lists))) (i size buckets free : ℕ) : Type 0 where
   pub positions : size + sum_by part_size (parts_data (drop i parts)) ≡ sum_by part_size (parts_data parts)
   pub pilots : buckets + sum_by (λ p. length p.pilots) (parts_data (drop i parts)) ≡ sum_by (λ p. length p.pilots) (parts_data parts)
   pub entries : free + sum_by (λ p. length p.free) (parts_data (drop i parts)) ≡ sum_by (λ p. length p.free) (parts_data parts)

@@ -1,6 +1,7 @@
 -- The value of a pair of hashes, and of a key, from what an index keeps.
 use Rattle.std.specs.Prelude.{◌≡◌, ℕ, ◌+◌, ◌<◌, ◌==◌, ◌↔◌, Bool, true, false, cond, List, [], length, take}
 use Rattle.std.specs.Prelude.{Option, Some, None, option_map}
+use Rattle.std.specs.Global.{Box}
 use Rattle.std.proofs.Common.{get_or, refl, sym, ap, ◌∙◌, arith}
 use Rattle.std.proofs.lemmas.Bool.{ne_eqb, eqb-true, eqb-false}
 use Rattle.std.proofs.lemmas.List.{length-map, get_or-map}
@@ -19,7 +20,7 @@ abbrev pub place_of_pair : Held → ℕ → ℕ → ℕ
 place_of_pair held a b = partition_of a b (length held.parts.items)
 
 -- it is the one that the index gives the pair
-pair_part : (held : Held) (a b q : ℕ) (d part : Option Lists) → q ≡ place_of_pair held a b → q < length held.parts.items →
+pair_part : (held : Held) (a b q : ℕ) (d part : Option (Box Lists)) → q ≡ place_of_pair held a b → q < length held.parts.items →
     get_or held.parts.items q d ≡ part →
     part_at (parts_data held.parts.items) (partition_of a b (length (parts_data held.parts.items))) ≡ part_data part
 pair_part held a b q d part place within is =
@@ -29,7 +30,7 @@ pair_part held a b q d part place within is =
     ∙ get_or-map part_data held.parts.items q d (record { n = 0; pilots = []; free = [] }) within ∙ ap part_data is
 
 -- the value of a pair, from its partition
-value_in_part : (held : Held) (a b q : ℕ) (d part : Option Lists) → q ≡ place_of_pair held a b → q < length held.parts.items →
+value_in_part : (held : Held) (a b q : ℕ) (d part : Option (Box Lists)) → q ≡ place_of_pair held a b → q < length held.parts.items →
     get_or held.parts.items q d ≡ part →
     pair_value (held_data held) a b
     ≡ option_map (λ v. key_count (take q (parts_data held.parts.items)) + v) (part_value held.shape.map held.seed (part_data part) a b)
@@ -43,23 +44,24 @@ value_in_part held a b q d part place within is =
     (pair_part held a b q d part place within is)
 
 -- a pair whose partition has no key has no value
-pub pair_value-none : (held : Held) (a b q : ℕ) (d : Option Lists) → q ≡ place_of_pair held a b → q < length held.parts.items →
+pub pair_value-none : (held : Held) (a b q : ℕ) (d : Option (Box Lists)) → q ≡ place_of_pair held a b → q < length held.parts.items →
     get_or held.parts.items q d ≡ None → None ≡ pair_value (held_data held) a b
 pair_value-none held a b q d place within is = sym (value_in_part held a b q d None place within is)
 
 -- a pair whose partition has a key has the value in it, behind the partitions before
-pub pair_value-some : (held : Held) (a b q : ℕ) (d : Option Lists) (lists : Lists) → q ≡ place_of_pair held a b →
-    q < length held.parts.items → get_or held.parts.items q d ≡ Some lists →
+pub pair_value-some : (held : Held) (a b q : ℕ) (d : Option (Box Lists)) (boxed : Box Lists) → q ≡ place_of_pair held a b →
+    q < length held.parts.items → get_or held.parts.items q d ≡ Some boxed →
     Some (key_count (take q (parts_data held.parts.items))
-    + position_value lists.n lists.free (pair_position held.shape.map held.seed (lists_data lists) a b))
+    + position_value boxed.value.n boxed.value.free (pair_position held.shape.map held.seed (lists_data boxed.value) a b))
     ≡ pair_value (held_data held) a b
-pair_value-some held a b q d lists place within is =
+pair_value-some held a b q d boxed place within is =
+    let lists : Lists = boxed.value in
     let parts = parts_data held.parts.items in
     let some = lists.some in
     let other : lists.n ≡ 0 → ⊥ = λ none. omega arith in
     let value = position_value lists.n lists.free (pair_position held.shape.map held.seed (lists_data lists) a b) in
     let here : part_value held.shape.map held.seed (lists_data lists) a b ≡ Some value = ap (λ t. cond t None (Some value)) (ne_eqb lists.n 0 other) in
-    sym (value_in_part held a b q d (Some lists) place within is ∙ ap (option_map (λ v. key_count (take q parts) + v)) here)
+    sym (value_in_part held a b q d (Some boxed) place within is ∙ ap (option_map (λ v. key_count (take q parts) + v)) here)
 
 -- the value of a key is that of its pair of hashes
 pub value_of-pair : (x : IndexData) (key : List ℕ) (a b : ℕ) → a ≡ first_hash key x.seed → b ≡ second_hash key x.seed →

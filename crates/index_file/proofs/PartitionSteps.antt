@@ -1,5 +1,6 @@
 -- The partitions that were read and those that come.
 use Rattle.std.specs.Prelude.{◌≡◌, ℕ, ◌+◌, ◌<◌, ◌≤◌, List, [], ◌∷◌, ◌++◌, length, drop, All, Option, Result, Ok, Err}
+use Rattle.std.specs.Global.{Box}
 use Rattle.std.proofs.Common.{get_or, refl, sym, ap, ◌∙◌, subst, append_assoc, append-nil, drop-cons, add-one, arith}
 use Rattle.std.proofs.lemmas.List.{nil_from_length, length-drop, map-append}
 use Rattle.std.proofs.lemmas.List.Elements.{All-nil, All-push}
@@ -26,7 +27,7 @@ before_more parts part (Ok more) = ap (λ (ps : List PartData). Ok (ps, more.1))
 before_more parts part (Err e) = refl
 
 -- the first i partitions were read up to a place
-pub record ArePartitions (bytes : List ℕ) (enc : Encoding) (shape : ShapeData) (counts : List ℕ) (at i : ℕ) (parts : List (Option Lists))
+pub record ArePartitions (bytes : List ℕ) (enc : Encoding) (shape : ShapeData) (counts : List ℕ) (at i : ℕ) (parts : List (Option (Box Lists)))
     (place : ℕ) : Type 0 where
   pub read : partitions_at (length bytes) enc shape 0 counts (drop at bytes)
       ≡ before (parts_data parts) (partitions_at (length bytes) enc shape i (drop i counts) (drop place bytes))
@@ -57,8 +58,9 @@ next_partition bytes enc shape counts i place within =
     (drop-cons counts i 0 within ∙ ap (λ (k : ℕ). get_or counts i 0 ∷ drop k counts) (sym (add-one i)))
 
 -- one partition more
-pub partitions_more : (bytes : List ℕ) (enc : Encoding) (shape : ShapeData) (counts : List ℕ) (at i : ℕ) (parts : List (Option Lists)) (place : ℕ)
-    (lists : Option Lists) (next : ℕ) → i < length counts → ArePartitions bytes enc shape counts at i parts place →
+pub partitions_more : (bytes : List ℕ) (enc : Encoding) (shape : ShapeData) (counts : List ℕ) (at i : ℕ)
+    (parts : List (Option (Box Lists))) (place : ℕ)
+    (lists : Option (Box Lists)) (next : ℕ) → i < length counts → ArePartitions bytes enc shape counts at i parts place →
     partition_at (length bytes) enc shape i (get_or counts i 0) (drop place bytes) ≡ Ok (part_data lists, drop next bytes) → next ≤ length bytes →
     IsUnder enc lists → ArePartitions bytes enc shape counts at (i + 1) (parts ++ lists ∷ []) next
 partitions_more bytes enc shape counts at i parts place lists next more so_far read within under =
@@ -76,7 +78,8 @@ partitions_more bytes enc shape counts at i parts place lists next more so_far r
     }
 
 -- a fault of the next partition is the fault of all
-pub partitions_err : (bytes : List ℕ) (enc : Encoding) (shape : ShapeData) (counts : List ℕ) (at i : ℕ) (parts : List (Option Lists)) (place : ℕ)
+pub partitions_err : (bytes : List ℕ) (enc : Encoding) (shape : ShapeData) (counts : List ℕ) (at i : ℕ)
+    (parts : List (Option (Box Lists))) (place : ℕ)
     (e : IndexFault) → i < length counts → ArePartitions bytes enc shape counts at i parts place →
     Fails e (partition_at (length bytes) enc shape i (get_or counts i 0) (drop place bytes)) →
     Fails e (partitions_at (length bytes) enc shape 0 counts (drop at bytes))
@@ -86,7 +89,8 @@ partitions_err bytes enc shape counts at i parts place e more so_far fails =
     >>= λ others. Ok (first.0 ∷ others.0, others.1))) (λ d. refl) fails)
 
 -- all partitions
-pub partitions_all : (bytes : List ℕ) (enc : Encoding) (shape : ShapeData) (counts : List ℕ) (at i : ℕ) (parts : List (Option Lists)) (place : ℕ) →
+pub partitions_all : (bytes : List ℕ) (enc : Encoding) (shape : ShapeData) (counts : List ℕ) (at i : ℕ)
+    (parts : List (Option (Box Lists))) (place : ℕ) →
     length counts ≤ i → ArePartitions bytes enc shape counts at i parts place →
     partitions_at (length bytes) enc shape 0 counts (drop at bytes) ≡ Ok (parts_data parts, drop place bytes)
 unfolding partitions_at

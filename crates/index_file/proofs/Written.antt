@@ -1,6 +1,7 @@
 -- Pieces that were written, one after the other.
 use Rattle.std.specs.Prelude.{◌≡◌, ℕ, ◌+◌, ◌<◌, ◌≤◌, List, [], ◌∷◌, ◌++◌, length, take, drop}
 use Rattle.std.specs.Prelude.{Option, Some, None, All, Result, Ok, Err, OnOk}
+use Rattle.std.specs.Global.{Box}
 use Rattle.std.specs.List.{flat_map}
 use Rattle.std.proofs.Common.{get_or, refl, sym, ap, ◌∙◌, subst, append_assoc, append-nil, drop-cons, add-one, arith}
 use Rattle.std.proofs.lemmas.List.{nil_from_length, length-drop, drop_at}
@@ -43,22 +44,22 @@ pieces_all piece parts old i out past so_far =
     sym (append-nil out) ∙ ap (λ ps. out ++ flat_map piece ps) (sym none) ∙ so_far
 
 -- the numbers of keys as pieces
-pub count_pieces : (parts : List (Option Lists)) → flat_map count_text parts ≡ flat_map number (key_counts (parts_data parts))
+pub count_pieces : (parts : List (Option (Box Lists))) → flat_map count_text parts ≡ flat_map number (key_counts (parts_data parts))
 count_pieces [] = refl
 count_pieces (None ∷ parts) = ap (λ (t : List ℕ). number 0 ++ t) (count_pieces parts)
-count_pieces (Some lists ∷ parts) = ap (λ (t : List ℕ). number lists.n ++ t) (count_pieces parts)
+count_pieces (Some lists ∷ parts) = ap (λ (t : List ℕ). number lists.value.n ++ t) (count_pieces parts)
 
 -- a partition as a piece
-own_piece : (enc : Encoding) (part : Option Lists) → IsUnder enc part → own_text part ≡ part_text enc (part_data part)
+own_piece : (enc : Encoding) (part : Option (Box Lists)) → IsUnder enc part → own_text part ≡ part_text enc (part_data part)
 unfolding part_text
 own_piece enc None under = refl
 own_piece enc (Some lists) under =
-    let some = lists.some in
-    ap (λ (e : Encoding). pair_text e lists.pilots.values ++ ef_text lists.free) under
-    ∙ sym (part_text-some enc (lists_data lists) (omega arith))
+    let some = lists.value.some in
+    ap (λ (e : Encoding). pair_text e lists.value.pilots.values ++ ef_text lists.value.free) under
+    ∙ sym (part_text-some enc (lists_data lists.value) (omega arith))
 
 -- the partitions as pieces
-pub own_pieces : (enc : Encoding) (parts : List (Option Lists)) → All (IsUnder enc) parts →
+pub own_pieces : (enc : Encoding) (parts : List (Option (Box Lists))) → All (IsUnder enc) parts →
     flat_map own_text parts ≡ parts_text enc (parts_data parts)
 own_pieces enc [] under = refl
 own_pieces enc (part ∷ parts) under =
@@ -72,7 +73,7 @@ three_pieces old o1 o2 o3 a b d p q r =
     r ∙ ap (λ (t : List ℕ). t ++ d) (q ∙ ap (λ (t : List ℕ). t ++ b) p) ∙ append_assoc (old ++ a) b d ∙ append_assoc old a (b ++ d)
 
 -- all before the digest, piece by piece
-pub body_is : (held : Held) (mark : KeyMarkData) (old o1 o2 o3 o4 : List ℕ) (head : HeadFields) (ps qs : List (Option Lists)) → IsHeld held →
+pub body_is : (held : Held) (mark : KeyMarkData) (old o1 o2 o3 o4 : List ℕ) (head : HeadFields) (ps qs : List (Option (Box Lists))) → IsHeld held →
     o1 ≡ old ++ head_text head → head ≡ fields_of (marked (held_data held) mark) held.enc →
     o2 ≡ o1 ++ flat_map number (mark.sum ∷ mark.xor ∷ []) → o3 ≡ o2 ++ flat_map count_text ps → ps ≡ held.parts.items →
     o4 ≡ o3 ++ flat_map own_text qs → qs ≡ held.parts.items → o4 ≡ old ++ body_text (marked (held_data held) mark) held.enc

@@ -1,5 +1,6 @@
 -- What an index keeps, as plain data.
 use Rattle.std.specs.Prelude.{◌≡◌, ℕ, List, length, map, Option, Some, None, All}
+use Rattle.std.specs.Global.{Box}
 use Rattle.bucket_map.specs.ShapeData.{shape_data}
 use Rattle.pilot_codecs.specs.declared.code.Encoding.{Encoding}
 use Rattle.build_outcome.specs.Index.{PartData, IndexData}
@@ -12,7 +13,7 @@ use Rattle.index_file.specs.Starts.{starts_from}
 use Rattle.index_file.specs.Encoded.{EncodedIndex}
 
 -- the partitions
-abbrev pub parts_data : List (Option Lists) → List PartData
+abbrev pub parts_data : List (Option (Box Lists)) → List PartData
 parts_data parts = map part_data parts
 
 -- the index
@@ -30,9 +31,9 @@ abbrev pub encoded_of : Held → EncodedIndex
 encoded_of held = record { index = held_data held; enc = held.enc }
 
 -- the pilots of a partition are in this encoding
-abbrev pub IsUnder : Encoding → Option Lists → Type 0
+abbrev pub IsUnder : Encoding → Option (Box Lists) → Type 0
 IsUnder enc None = Unit {0}
-IsUnder enc (Some lists) = lists.pilots.enc ≡ enc
+IsUnder enc (Some lists) = lists.value.pilots.enc ≡ enc
 
 -- what is kept beside the partitions is theirs
 pub record IsHeld (held : Held) : Type 0 where

@@ -1,5 +1,6 @@
 -- The pieces of a text that are written: its fields, and those of a partition.
 use Rattle.std.specs.Prelude.{ℕ, ◌≤◌, ◌<◌, List, [], ◌++◌, length, All, Option, Some, None}
+use Rattle.std.specs.Global.{Box}
 use Rattle.pthash.specs.declared.TheConstants.{MAX_BUCKETS, MAX_PILOTS}
 use Rattle.pthash.specs.Shapes.{ShapeData}
 use Rattle.elias_fano.specs.Spelling.{number, ef_text}
@@ -12,14 +13,14 @@ use Rattle.index_text.specs.Text.{code_number, back_number, map_number}
 use Rattle.index_file.specs.declared.lists.Lists.{Lists}
 
 -- how many keys it has
-abbrev pub count_text : Option Lists → List ℕ
+abbrev pub count_text : Option (Box Lists) → List ℕ
 count_text None = number 0
-count_text (Some lists) = number lists.n
+count_text (Some lists) = number lists.value.n
 
 -- its lists, its pilots under their own encoding
-abbrev pub own_text : Option Lists → List ℕ
+abbrev pub own_text : Option (Box Lists) → List ℕ
 own_text None = []
-own_text (Some lists) = pair_text lists.pilots.enc lists.pilots.values ++ ef_text lists.free
+own_text (Some lists) = pair_text lists.value.pilots.enc lists.value.pilots.values ++ ef_text lists.value.free
 
 -- the fields of the second version of a file: seed, number of keys, shape, number of partitions, encoding
 abbrev pub marked_fields : ℕ → ℕ → ShapeData → ℕ → Encoding → HeadFields

@@ -4,8 +4,8 @@ use bucket_map::Shape;
 use build_outcome::KeyMark;
 use pilot_codecs::Encoding;
 
-// What an index keeps of its bytes: the lists of each partition that has a key, and how many keys
-// the partitions before each have.
+// What an index keeps of its bytes: the lists of each partition that has a key, in memory of their
+// own so that one without a key takes a word, and how many keys the partitions before each have.
 #[derive(Drop)]
 pub(crate) struct Held {
     pub(crate) seed: u64,
@@ -13,6 +13,6 @@ pub(crate) struct Held {
     pub(crate) shape: Shape,
     pub(crate) enc: Encoding,
     pub(crate) mark: Option<KeyMark>,
-    pub(crate) parts: Vec<Option<Lists>>,
+    pub(crate) parts: Vec<Option<Box<Lists>>>,
     pub(crate) starts: Vec<u64>,
 }

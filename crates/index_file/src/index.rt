@@ -71,7 +71,7 @@ struct Totals {
 }
 
 // The sums of one partition.
-fn sums_of(part: &Option<Lists>) -> Totals
+fn sums_of(part: &Option<Box<Lists>>) -> Totals
     ensures size { result.size ≡ part_size (part_data part.now) }
     ensures buckets { result.buckets ≡ length (part_data part.now).pilots }
     ensures free { result.free ≡ length (part_data part.now).free }
@@ -94,7 +94,7 @@ fn sums_of(part: &Option<Lists>) -> Totals
 }
 
 // The sums over partitions.
-fn add_up(parts: &[Option<Lists>]) -> Totals
+fn add_up(parts: &[Option<Box<Lists>>]) -> Totals
     requires { length parts.now ≤ 2 ^ 20 }
     ensures size { result.size ≡ sum_by part_size (parts_data parts.now) }
     ensures buckets { result.buckets ≡ sum_by (λ p. length p.pilots) (parts_data parts.now) }

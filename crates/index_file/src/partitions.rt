@@ -83,7 +83,7 @@ fn lists_of(
     shape: Shape,
     number: u32,
     n: u64,
-) -> Result<(Option<Lists>, usize), IndexFault>
+) -> Result<(Option<Box<Lists>>, usize), IndexFault>
     requires within { at ≤ length bytes.now }
     requires few { n ≤ MAX_KEYS }
     ensures value { Gives (λ x. (part_data x.0, drop x.1 bytes.now)) result
@@ -105,7 +105,7 @@ fn lists_of(
         buckets: BucketDivisors::new(buckets),
         size: Divisor::new(size),
     };
-    Ok((Some(lists), at))
+    Ok((Some(Box::new(alloc, lists)?), at))
 }
 
 // The partitions that have so many keys each, and the place after them.
@@ -116,7 +116,7 @@ pub(crate) fn partitions_of(
     enc: Encoding,
     shape: Shape,
     counts: &[u64],
-) -> Result<(Vec<Option<Lists>>, usize), IndexFault>
+) -> Result<(Vec<Option<Box<Lists>>>, usize), IndexFault>
     requires within { at ≤ length bytes.now }
     requires few { length counts.now ≤ 2 ^ 20 }
     requires small { below_len (MAX_KEYS + 1) counts.now ≡ length counts.now }

@@ -90,7 +90,7 @@ pub(crate) fn put_head(out: &mut Vec<u8>, head: HeadFields) -> Result<(), NoMemo
 }
 
 // Appends how many keys a partition has.
-fn put_count(out: &mut Vec<u8>, part: &Option<Lists>) -> Result<(), NoMemory>
+fn put_count(out: &mut Vec<u8>, part: &Option<Box<Lists>>) -> Result<(), NoMemory>
     ensures ok { OnOk result (out.new.items ≡ out.old.items ++ count_text part.now) }
     ensures kept { take (length out.old.items) out.new.items ≡ out.old.items }
 {
@@ -101,7 +101,7 @@ fn put_count(out: &mut Vec<u8>, part: &Option<Lists>) -> Result<(), NoMemory>
 }
 
 // Appends how many keys each partition has.
-fn put_counts(out: &mut Vec<u8>, parts: &[Option<Lists>]) -> Result<(), NoMemory>
+fn put_counts(out: &mut Vec<u8>, parts: &[Option<Box<Lists>>]) -> Result<(), NoMemory>
     ensures ok { OnOk result (out.new.items ≡ out.old.items ++ flat_map count_text parts.now) }
     ensures kept { take (length out.old.items) out.new.items ≡ out.old.items }
 {
@@ -112,7 +112,7 @@ fn put_counts(out: &mut Vec<u8>, parts: &[Option<Lists>]) -> Result<(), NoMemory
 }
 
 // Appends the lists of a partition.
-fn put_lists(out: &mut Vec<u8>, part: &Option<Lists>) -> Result<(), NoMemory>
+fn put_lists(out: &mut Vec<u8>, part: &Option<Box<Lists>>) -> Result<(), NoMemory>
     ensures ok { OnOk result (out.new.items ≡ out.old.items ++ own_text part.now) }
     ensures kept { take (length out.old.items) out.new.items ≡ out.old.items }
 {
@@ -127,7 +127,7 @@ fn put_lists(out: &mut Vec<u8>, part: &Option<Lists>) -> Result<(), NoMemory>
 }
 
 // Appends the lists of each partition.
-fn put_partitions(out: &mut Vec<u8>, parts: &[Option<Lists>]) -> Result<(), NoMemory>
+fn put_partitions(out: &mut Vec<u8>, parts: &[Option<Box<Lists>>]) -> Result<(), NoMemory>
     ensures ok { OnOk result (out.new.items ≡ out.old.items ++ flat_map own_text parts.now) }
     ensures kept { take (length out.old.items) out.new.items ≡ out.old.items }
 {
