@@ -5,9 +5,12 @@ mod board;
 mod claiming;
 mod closing;
 mod committing;
+mod finding;
 mod gate;
+mod hashes;
 mod layout;
 mod plays;
+mod repeats;
 mod searching;
 mod table;
 #[cfg(test)]

@@ -6,6 +6,7 @@ ghost use Rattle.turn_search.specs.Steps.{new_view};
 ghost use Rattle.turn_search.specs.Passes.{IsPassOf};
 
 use crate::board::{Board, Place};
+use crate::hashes::PilotHashes;
 use crate::layout::word_count;
 use crate::plays::SplitStep;
 use atomic_table::Table;
@@ -21,6 +22,7 @@ pub struct TurnTable<'a> {
     pub(crate) board: Board,
     // room for the pilots that `close` answers
     pub(crate) pilots: Vec<u64>,
+    pub(crate) hashes: PilotHashes,
 }
 
 impl<'a> Model for TurnTable<'a> {
@@ -71,11 +73,13 @@ impl<'a> TurnTable<'a> {
         ensures view { IfOk result (λ made. made.1.view ≡ new_view plan.now 0) }
     {
         let pilots = vec![in alloc; 0; plan.ranks() as usize]?;
+        let hashes = PilotHashes::new(alloc, plan.seed(), plan.size())?;
         let (board, seat) = lay(alloc, plan)?;
         let table = Self {
             plan,
             board,
             pilots,
+            hashes,
         };
         let place = 0;
         Ok((table, Pass { seat, place }))

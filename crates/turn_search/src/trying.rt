@@ -1,24 +1,15 @@
 // Pilots are tried on the positions that the table shows.
 
-ghost use Rattle.std.specs.Prelude.{◌≡◌, ◌≢◌, ◌+◌, ◌<◌, ◌≤◌, ◌↔◌, ℕ, true, false, not, None, Some, Err, IfSome, IfNone};
-ghost use Rattle.std.specs.List.{list_all};
-ghost use Rattle.pthash.specs.Order.{bucket_at, most_members};
+ghost use Rattle.std.specs.Prelude.{◌≡◌, ◌≢◌, ◌+◌, ◌≤◌, ◌↔◌, ℕ, true, None, Some, Err};
+ghost use Rattle.pthash.specs.Order.{most_members};
 ghost use Rattle.pthash.specs.Search.{prefix_of};
-ghost use Rattle.pilot_search.specs.Table.{positions_under};
-ghost use Rattle.pthash.specs.SearchLaws.{fits_at};
-ghost use Rattle.turn_search.specs.Words.{ranks_of};
-ghost use Rattle.turn_search.specs.Looks.{found_taken, found_free, RejectsBelow, IsCandidateBy, Shows};
+ghost use Rattle.turn_search.specs.Looks.{RejectsBelow, IsCandidateBy, Shows};
 ghost use Rattle.turn_search.specs.Told.{HasTurnIfHeld};
-ghost use Rattle.turn_search.specs.Passes.{CandidateData, IsPassOf, LooksAt, OnlyLooked, IsOfRank, IsPilotOf, new_looks};
+ghost use Rattle.turn_search.specs.Passes.{CandidateData, IsPassOf, OnlyLooked, IsOfRank, IsPilotOf, new_looks};
 ghost use Rattle.turn_search.specs.declared.trying.Spec.TheVariants.{Found, AllRejected};
 
-use crate::claiming::is_bit_set;
-use crate::layout::bits_from;
-use crate::plays::LookStep;
 use crate::table::{Pass, TurnTable};
-use divisor::Divisor;
-use murmur64::pilot_hash;
-use pilot_search::{Scratch, spread};
+use pilot_search::Scratch;
 use std::marker::Model;
 
 /// A pilot that a pass has found for its rank.
@@ -142,104 +133,5 @@ impl<'a> TurnTable<'a> {
             Some(pilot) => Spec::Found(Candidate { rank, pilot }),
             None => Spec::AllRejected,
         }
-    }
-
-    // The least pilot from `first` on that is not rejected.
-    fn find_from(
-        &self,
-        pass: &mut Pass,
-        rank: u64,
-        first: u64,
-        scratch: &mut Scratch,
-    ) -> Option<u64>
-        requires pass { IsPassOf self.now pass.old }
-        requires claim { pass.old.view.claim ≡ Some rank }
-        requires rank { rank < ranks_of self.now.plan }
-        requires room { most_members self.now.plan.buckets ≤ scratch.old.members }
-        requires lower { RejectsBelow pass.old.view rank first }
-        ensures pass { IsPassOf self.now pass.new }
-        ensures looks { OnlyLooked pass.old.view pass.new.view }
-        ensures room { scratch.new.members ≡ scratch.old.members }
-        ensures lower { IfSome result (λ pilot. RejectsBelow pass.new.view rank pilot) }
-        ensures found { let looks = new_looks pass.old.view pass.new.view in
-            IfSome result (λ pilot. IsCandidateBy self.now.plan looks rank pilot) }
-        ensures all_rejected { IfNone result
-            (RejectsBelow pass.new.view rank self.now.plan.limit) }
-    {
-        let size = Divisor::new(self.plan.size());
-        for pilot in first..self.plan.limit() {
-            if self.try_pilot(pass, rank, pilot, &size, scratch) {
-                return Some(pilot);
-            }
-        }
-        None
-    }
-
-    // Whether the pilot's positions are distinct and all of them were found free.
-    fn try_pilot(
-        &self,
-        pass: &mut Pass,
-        rank: u64,
-        pilot: u64,
-        size: &Divisor,
-        scratch: &mut Scratch,
-    ) -> bool
-        requires pass { IsPassOf self.now pass.old }
-        requires claim { pass.old.view.claim ≡ Some rank }
-        requires rank { rank < ranks_of self.now.plan }
-        requires pilot { pilot < self.now.plan.limit }
-        requires size { size.now ≡ self.now.plan.size }
-        requires room { most_members self.now.plan.buckets ≤ scratch.old.members }
-        ensures pass { IsPassOf self.now pass.new }
-        ensures looks { OnlyLooked pass.old.view pass.new.view }
-        ensures room { scratch.new.members ≡ scratch.old.members }
-        ensures found { let looks = new_looks pass.old.view pass.new.view in
-            result ≡ true → IsCandidateBy self.now.plan looks rank pilot }
-        ensures rejected { let taken = found_taken pass.new.view.looks in
-            result ≡ false → fits_at pass.new.view.plan taken rank pilot ≡ false }
-    {
-        let members = self.plan.members(rank);
-        if !self.are_free(pass, members, pilot_hash(pilot, self.plan.seed()), size) {
-            return false;
-        }
-        spread(self.plan, rank, pilot, scratch)
-    }
-
-    // Looks at one position after another, until one is taken.
-    fn are_free(&self, pass: &mut Pass, members: &[u64], hash: u64, size: &Divisor) -> bool
-        requires pass { IsPassOf self.now pass.old }
-        requires claim { pass.old.view.claim ≢ None }
-        requires size { size.now ≡ self.now.plan.size }
-        ensures pass { IsPassOf self.now pass.new }
-        ensures looks { OnlyLooked pass.old.view pass.new.view }
-        ensures free { let looks = new_looks pass.old.view pass.new.view in
-            let positions = positions_under hash size.now members.now in
-            result ≡ true → list_all (found_free looks) positions ≡ true }
-        ensures taken { let looks = pass.new.view.looks in
-            let positions = positions_under hash size.now members.now in
-            result ≡ false → list_all (λ p. not (found_taken looks p)) positions ≡ false }
-    {
-        for member in members {
-            if !self.is_free(pass, size.remainder(*member ^ hash)) {
-                return false;
-            }
-        }
-        true
-    }
-
-    // Whether a look finds the position free.
-    fn is_free(&self, pass: &mut Pass, position: u64) -> bool
-        requires pass { IsPassOf self.now pass.old }
-        requires claim { pass.old.view.claim ≢ None }
-        requires position { position < self.now.plan.size }
-        ensures pass { IsPassOf self.now pass.new }
-        ensures look { LooksAt pass.old.view pass.new.view position result }
-    {
-        let word = bits_from(self.plan) + position / 64;
-        let found = self
-            .board
-            .shared
-            .load::<LookStep>(&mut pass.seat, word as usize);
-        !is_bit_set(found, position % 64)
     }
 }

@@ -1,6 +1,6 @@
 use Rattle.std.proofs.Common.{refl, ◌∙◌}
 use Rattle.turn_search.proofs.Looked.{looked_on, rejects_on, rejects_next, candidate_on}
-use Rattle.turn_search.proofs.table.TurnTable.find_from.Goals as goal
+use Rattle.turn_search.proofs.table.TurnTable.find_between.Goals as goal
 
 pub returns-then-try_pilot-clause-lower : goal.returns-then-try_pilot-clause-lower
 returns-then-try_pilot-clause-lower c =
