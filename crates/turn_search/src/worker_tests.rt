@@ -7,8 +7,9 @@ use super::*;
 use crate::tests::two_buckets;
 use bucket_map::{Map, NoMemory, Record, bucket_count, ordered_buckets, table_size};
 use murmur64::hash_pair;
-use pilot_search::{Plan, Stuck, place};
+use pilot_search::{Placed, Plan, Stuck, place};
 use std::alloc::Global;
+use std::process::Abort;
 use std::sync::atomic::{AtomicBool, AtomicU64, Ordering};
 use std::test::Fail;
 use std::thread;
@@ -17,20 +18,24 @@ use std::thread;
 const MOST_LOOKS: u64 = 100_000_000;
 
 #[test]
-fn workers_give_the_answers_of_one_thread(rt: HostRuntime) -> Result<(), Fail> {
-    for (last, outcome) in [(8, Ok([0, 0])), (6, Err(Stuck { rank: 1, bucket: 1 }))] {
-        let plan = two_buckets(rt.alloc(), last)?;
-        for workers in [1, 2, 7] {
-            match (
-                search_turns(&rt, rt.alloc(), &plan, workers, &FreeGate)?,
-                outcome,
-            ) {
-                (Ok(placed), Ok(pilots)) => {
-                    assert_eq!(rt; placed.pilots.as_slice(), pilots.as_slice());
-                }
-                (Err(stuck), Err(expected)) => assert_eq!(rt; stuck, expected),
-                _ => panic!(rt; "{workers} workers ended otherwise"),
-            }
+fn workers_place_what_one_thread_places(rt: HostRuntime) -> Result<(), Fail> {
+    let plan = two_buckets(rt.alloc(), 8)?;
+    for workers in [1, 2, 7] {
+        match search_turns(&rt, rt.alloc(), &plan, workers, &FreeGate)? {
+            Ok(placed) => assert_eq!(rt; placed.pilots.as_slice(), [0, 0].as_slice()),
+            Err(_) => panic!(rt; "{workers} workers are stuck"),
+        }
+    }
+    Ok(())
+}
+
+#[test]
+fn workers_are_stuck_where_one_thread_is(rt: HostRuntime) -> Result<(), Fail> {
+    let plan = two_buckets(rt.alloc(), 6)?;
+    for workers in [1, 2, 7] {
+        match search_turns(&rt, rt.alloc(), &plan, workers, &FreeGate)? {
+            Ok(_) => panic!(rt; "{workers} workers are not stuck"),
+            Err(stuck) => assert_eq!(rt; stuck, Stuck { rank: 1, bucket: 1 }),
         }
     }
     Ok(())
@@ -150,28 +155,40 @@ fn plan_of(alloc: Global, records: &[Record], seed: u64) -> Result<Plan, NoMemor
     })
 }
 
-#[test]
-fn each_rank_has_its_candidate_and_its_turn(rt: HostRuntime) -> Result<(), Fail> {
+// The plan of these lines at the first seed at which it is placed, and its pilots.
+fn first_plan_placed(rt: &impl Abort, alloc: Global) -> Result<(Plan, Placed), Fail> {
     for seed in 1..9 {
-        let records = records_of_lines(rt.alloc(), seed)?;
-        assert_eq!(rt; records.len(), 50);
-        let plan = plan_of(rt.alloc(), &records, seed)?;
-        let Ok(expected) = place(rt.alloc(), &plan)? else {
-            continue;
-        };
-        for workers in [1, 2, 7] {
-            let gate = CountingGate::new(rt.alloc(), plan.ranks())?;
-            let Ok(placed) = search_turns(&rt, rt.alloc(), &plan, workers, &gate)? else {
-                panic!(rt; "{workers} workers are stuck")
-            };
-            assert_eq!(rt; placed.pilots.as_slice(), expected.pilots.as_slice());
-            assert_eq!(rt; gate.turns.load(Ordering::SeqCst), plan.ranks());
-            assert!(rt; !gate.out_of_order.load(Ordering::SeqCst));
-            for count in &gate.candidates {
-                assert_eq!(rt; count.load(Ordering::SeqCst), 1);
-            }
+        let records = records_of_lines(alloc, seed)?;
+        assert!(rt; records.len() == 50);
+        let plan = plan_of(alloc, &records, seed)?;
+        if let Ok(placed) = place(alloc, &plan)? {
+            return Ok((plan, placed));
         }
-        return Ok(());
     }
     panic!(rt; "no seed succeeds")
+}
+
+// Each rank has reported a candidate and, in order, a turn.
+fn assert_counted(rt: &impl Abort, gate: &CountingGate, ranks: u64) {
+    assert_eq!(rt; gate.turns.load(Ordering::SeqCst), ranks);
+    assert!(rt; !gate.out_of_order.load(Ordering::SeqCst));
+    for count in &gate.candidates {
+        assert_eq!(rt; count.load(Ordering::SeqCst), 1);
+    }
+}
+
+#[test]
+fn each_rank_has_its_candidate_and_its_turn(rt: HostRuntime) -> Result<(), Fail> {
+    let (plan, expected) = first_plan_placed(&rt, rt.alloc())?;
+    for workers in [1, 2, 7] {
+        let gate = CountingGate::new(rt.alloc(), plan.ranks())?;
+        match search_turns(&rt, rt.alloc(), &plan, workers, &gate)? {
+            Ok(placed) => {
+                assert_eq!(rt; placed.pilots.as_slice(), expected.pilots.as_slice());
+            }
+            Err(_) => panic!(rt; "{workers} workers are stuck"),
+        }
+        assert_counted(&rt, &gate, plan.ranks());
+    }
+    Ok(())
 }
