@@ -1,5 +1,6 @@
 -- How commands end.
-use Rattle.std.proofs.Common.{◌≡◌, ◌≢◌, ◌≤◌, ℕ, List, Option, Some, None, Result, Ok, Err, IsSome, IsErr, IfSome, IfOk, IfErr, option_map, IsErrOf}
+use Rattle.std.proofs.Common.{◌≡◌, ◌≢◌, ◌≤◌, ℕ, List, Option, Some, None, Result}
+use Rattle.std.proofs.Common.{Ok, Err, IsSome, IsErr, IfSome, IfOk, IfErr, option_map, IsErrOf}
 use Rattle.std.proofs.Common.{inl, inr, ⊎_elim, refl, sym, ap, subst, ◌∙◌, arith}
 use Rattle.std.specs.Prelude.{◌⊎◌, IsSomeAnd, option_and_then}
 use Rattle.std.specs.FinMap as map
@@ -24,9 +25,25 @@ use Rattle.pth_top.specs.Words.{refused, command_result, new_file, CommandRepeat
 use Rattle.pth_top.proofs.Replacing.{name_is_not_tmp, with_new-name, with_new-other}
 use Rattle.pth_top.proofs.Repeats.{command_repeats}
 
+-- the result of a text that was to be handed over: its status, or that of a failed output or of want of memory
+abbrev IsResultOf : ℕ → ℕ → Type 0
+IsResultOf status result = (result ≡ status) ⊎ ((result ≡ FAILED_OUTPUT) ⊎ (result ≡ NO_MEMORY))
+
+-- the status of a command that was not done: want of memory, or a fault that was met
+abbrev HasGivenUp : Type 0 → ℕ → Type 0
+HasGivenUp fault status = (status ≡ NO_MEMORY) ⊎ ((status ≡ FILE_FAULT) × fault)
+
+-- the statuses up to that of refused words, and that of a repeated key, are of commands
+own_status : (status : ℕ) → (status ≤ WORDS_REFUSED) ⊎ (status ≡ REPEATED_KEY) → IsOfCommand status
+own_status status which = record {
+  no_fault = λ is. ⊎_elim (λ low. omega arith) (λ repeats. omega arith) which;
+  no_failed_output = λ is. ⊎_elim (λ low. omega arith) (λ repeats. omega arith) which;
+  no_want = λ is. ⊎_elim (λ low. omega arith) (λ repeats. omega arith) which;
+}
+
 -- how a text with a status was handed over
 pub record IsShown (status result : ℕ) (text : List ℕ) (old new : SinkState) : Type 0 where
-  pub answers : (result ≡ status) ⊎ ((result ≡ FAILED_OUTPUT) ⊎ (result ≡ NO_MEMORY))
+  pub answers : IsResultOf status result
   pub shown : result ≡ status → Prints text old new
   pub whole : result ≡ 0 → new.told ≡ written text old.told
   pub done : result ≡ FAILED_OUTPUT → status ≡ 0
@@ -35,17 +52,16 @@ pub record IsShown (status result : ℕ) (text : List ℕ) (old new : SinkState)
   pub leaves : LeavesSink old new (result ≡ FAILED_OUTPUT)
 
 -- the result is that of the text, where it is one of neither a failed output nor want of memory
-shown_same : (status result : ℕ) → ((result ≡ status) ⊎ ((result ≡ FAILED_OUTPUT) ⊎ (result ≡ NO_MEMORY))) →
-    (result ≡ FAILED_OUTPUT → ⊥) → (result ≡ NO_MEMORY → ⊥) → result ≡ status
+shown_same : (status result : ℕ) → IsResultOf status result → (result ≡ FAILED_OUTPUT → ⊥) → (result ≡ NO_MEMORY → ⊥) → result ≡ status
 shown_same status result answers not_failed not_want =
     ⊎_elim (λ same. same) (λ rest. ⊎_elim (λ failed. absurd (not_failed failed)) (λ want. absurd (not_want want)) rest) answers
 
 -- a status that is shown is one of a run
-shown_status : (status result : ℕ) → ((result ≡ status) ⊎ ((result ≡ FAILED_OUTPUT) ⊎ (result ≡ NO_MEMORY))) → status ≤ INDEX_REFUSED → IsStatus result
+shown_status : (status result : ℕ) → IsResultOf status result → status ≤ INDEX_REFUSED → IsStatus result
 shown_status status result answers few = ⊎_elim (λ same. inl (omega arith)) (λ rest. inr rest) answers
 
 -- a fault is never shown where the status is that of a command
-shown_no_fault : (status result : ℕ) → ((result ≡ status) ⊎ ((result ≡ FAILED_OUTPUT) ⊎ (result ≡ NO_MEMORY))) → status ≢ FILE_FAULT → result ≢ FILE_FAULT
+shown_no_fault : (status result : ℕ) → IsResultOf status result → status ≢ FILE_FAULT → result ≢ FILE_FAULT
 shown_no_fault status result answers own is =
     ⊎_elim (λ same. own (sym same ∙ is)) (λ rest. ⊎_elim (λ failed. omega arith) (λ want. omega arith) rest) answers
 
@@ -120,12 +136,13 @@ pub finishes_shown : (d : Done) (result : ℕ) (text : List ℕ) (f f' : FilesSt
 finishes_shown d result text f f' s s' says own few whole is leaves shown =
     let no_fault : result ≢ FILE_FAULT = shown_no_fault d.status result shown.answers own.no_fault in
     record {
-      ends = λ of_command. let same : result ≡ d.status = shown_same d.status result shown.answers of_command.no_failed_output of_command.no_want in record {
-        status_is = same;
-        shown = subst (λ (t : List ℕ). Prints t s s') says (shown.shown same);
-        whole = λ zero. subst (λ (t : List ℕ). s'.told ≡ written t s.told) says (shown.whole zero);
-        files = is;
-      };
+      ends = λ of_command. let same : result ≡ d.status =
+          shown_same d.status result shown.answers of_command.no_failed_output of_command.no_want in record {
+            status_is = same;
+            shown = subst (λ (t : List ℕ). Prints t s s') says (shown.shown same);
+            whole = λ zero. subst (λ (t : List ℕ). s'.told ≡ written t s.told) says (shown.whole zero);
+            files = is;
+          };
       statuses = shown_status d.status result shown.answers few;
       leaves = LeavesFiles-ok f f' no_fault leaves;
       fault_text = λ fault. absurd (no_fault fault);
@@ -143,22 +160,23 @@ finishes_shown d result text f f' s s' says own few whole is leaves shown =
     }
 
 -- the two statuses of a command that was not done
-gave_up_not_done : {fault : Type 0} (status : ℕ) → ((status ≡ NO_MEMORY) ⊎ ((status ≡ FILE_FAULT) × fault)) → IsDone status → ⊥
+gave_up_not_done : {fault : Type 0} (status : ℕ) → HasGivenUp fault status → IsDone status → ⊥
 gave_up_not_done status statuses done =
     ⊎_elim (λ want. ⊎_elim (λ zero. omega arith) (λ failed. omega arith) done)
     (λ fault. let is : status ≡ FILE_FAULT = fault.0 in ⊎_elim (λ zero. omega arith) (λ failed. omega arith) done) statuses
 
 -- where a command was not done, its status is of a run
-gave_up_status : {fault : Type 0} (status : ℕ) → ((status ≡ NO_MEMORY) ⊎ ((status ≡ FILE_FAULT) × fault)) → IsStatus status
+gave_up_status : {fault : Type 0} (status : ℕ) → HasGivenUp fault status → IsStatus status
 gave_up_status status statuses =
     ⊎_elim (λ want. inr (inr want)) (λ fault. let is : status ≡ FILE_FAULT = fault.0 in inl (omega arith)) statuses
 
 -- a fault was met where that is the status
-gave_up_fault : {fault : Type 0} (status : ℕ) → ((status ≡ NO_MEMORY) ⊎ ((status ≡ FILE_FAULT) × fault)) → status ≡ FILE_FAULT → fault
+gave_up_fault : {fault : Type 0} (status : ℕ) → HasGivenUp fault status → status ≡ FILE_FAULT → fault
 gave_up_fault status statuses is = ⊎_elim (λ want. absurd (omega arith)) (λ fault. fault.1) statuses
 
 -- and the status is one of the two
-gave_up_two : {fault : Type 0} (status : ℕ) → ((status ≡ NO_MEMORY) ⊎ ((status ≡ FILE_FAULT) × fault)) → status ≢ NO_MEMORY → status ≢ FILE_FAULT → ⊥
+gave_up_two : {fault : Type 0} (status : ℕ) → HasGivenUp fault status → status ≢ NO_MEMORY →
+    status ≢ FILE_FAULT → ⊥
 gave_up_two status statuses no_want no_fault = ⊎_elim (λ want. no_want want) (λ fault. no_fault fault.0) statuses
 
 -- want of memory
@@ -174,7 +192,9 @@ gives_up_want fault status s s' want front leaves = record {
 -- a fault whose text was handed over
 pub gives_up_fault : (fault : Type 0) (result : ℕ) (s s' : SinkState) → fault → IsShown FILE_FAULT result file_fault s s' → GivesUp fault result s s'
 gives_up_fault fault result s s' met shown = record {
-  statuses = ⊎_elim (λ same. inr (same, met)) (λ rest. ⊎_elim (λ failed. let zero : FILE_FAULT ≡ 0 = shown.done failed in absurd (omega arith)) (λ want. inl want) rest) shown.answers;
+  statuses = ⊎_elim (λ same. inr (same, met))
+      (λ rest. ⊎_elim (λ failed. let zero : FILE_FAULT ≡ 0 = shown.done failed in absurd (omega arith)) (λ want. inl want) rest)
+      shown.answers;
   fault_text = shown.shown;
   prints = shown.leaves;
   memory = shown.memory;
@@ -232,11 +252,7 @@ of_silent (Some m) found is = absurd cc
 done_files : (d : Done) (status : ℕ) (f f' : FilesState) (s s' : SinkState) → Finishes d status f f' s s' → IsDone status →
     (d.status ≡ 0) × (f'.told ≡ option_map (with_file d.file) f.told)
 done_files d status f f' s s' finishes done = ⊎_elim
-    (λ zero. let ends : EndsAs d status s s' f.told f'.told = finishes.ends (record {
-      no_fault = λ is. omega arith;
-      no_failed_output = λ is. omega arith;
-      no_want = λ is. omega arith;
-    }) in
+    (λ zero. let ends : EndsAs d status s s' f.told f'.told = finishes.ends (own_status status (inl (omega arith))) in
     (sym ends.status_is ∙ zero, ends.files))
     (λ failed. let cut : IsCutOff d s s' f.told f'.told = finishes.cut_off failed in (cut.well_done, cut.files))
     done
@@ -248,19 +264,11 @@ pub ends_done : (command : Result CommandData WordFault) (d : Done) (status : �
     (d.status ≡ WORDS_REFUSED → IsErr command) → Finishes d status f f' s s' → Ends command status f f' s s'
 ends_done command d status f f' s s' is builds refused finishes = record {
   done = λ of_command. some_and f.told (command_result command) d (λ d. EndsAs d status s s' f.told f'.told) is (finishes.ends of_command);
-  repeated = λ four. let ends : EndsAs d status s s' f.told f'.told = finishes.ends (record {
-    no_fault = λ is. omega arith;
-    no_failed_output = λ is. omega arith;
-    no_want = λ is. omega arith;
-  }) in
+  repeated = λ four. let ends : EndsAs d status s s' f.told f'.told = finishes.ends (own_status status (inr four)) in
       command_repeats command f.told d is (sym ends.status_is ∙ four);
   built = λ done. let files : (d.status ≡ 0) × (f'.told ≡ option_map (with_file d.file) f.told) = done_files d status f f' s s' finishes done in
       subst (λ t. IfSome f.told (λ m. CommandBuilds command m t)) (sym files.1) (builds files.0);
-  only_refused = λ one. let ends : EndsAs d status s s' f.told f'.told = finishes.ends (record {
-    no_fault = λ is. omega arith;
-    no_failed_output = λ is. omega arith;
-    no_want = λ is. omega arith;
-  }) in
+  only_refused = λ one. let ends : EndsAs d status s s' f.told f'.told = finishes.ends (own_status status (inl (omega arith))) in
       refused (sym ends.status_is ∙ one);
   statuses = finishes.statuses;
   leaves = LeavesFiles-if f f' (λ is. is) (of_silent f.told (command_result command)) finishes.leaves;

@@ -22,7 +22,8 @@ pub values_text_more : (x : IndexData) (queries : List (List ℕ)) (i : ℕ) (ke
 values_text_more x queries i key start old new value found so_far is pushed =
     let front : List (List ℕ) = take i queries in
     let grown : take (i + 1) queries ≡ front ++ key ∷ [] =
-    take_more queries i [] (slice_get_within queries i key found) ∙ ap (λ (k : List ℕ). front ++ k ∷ []) (get_or_from_slice_get queries i key [] found) in
+    take_more queries i [] (slice_get_within queries i key found)
+    ∙ ap (λ (k : List ℕ). front ++ k ∷ []) (get_or_from_slice_get queries i key [] found) in
     pushed
     ∙ ap (λ (text : List ℕ). text ++ value_line value) so_far
     ∙ append_assoc start (value_lines x front) (value_line value)

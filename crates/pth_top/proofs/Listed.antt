@@ -1,5 +1,6 @@
 -- The list of a file and its index, by what reading and building answer.
-use Rattle.std.proofs.Common.{◌≡◌, ℕ, ◌≤◌, false, true, cond, List, [], ◌∷◌, length, take, Option, Some, None, Result, Ok, Err, IsSome, IfSome}
+use Rattle.std.proofs.Common.{◌≡◌, ℕ, ◌≤◌, false, true, cond, List, [], ◌∷◌, length}
+use Rattle.std.proofs.Common.{take, Option, Some, None, Result, Ok, Err, IsSome, IfSome}
 use Rattle.std.proofs.Common.{option_map, refl, sym, ap, ◌∙◌, subst, arith}
 use Rattle.std.specs.Prelude.{IsSomeAnd, nat_lt, codes}
 use Rattle.std.specs.FinMap as fin

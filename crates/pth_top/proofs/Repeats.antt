@@ -1,5 +1,6 @@
 -- A list that is refused for a repeated key has one.
-use Rattle.std.proofs.Common.{◌≡◌, ℕ, true, false, cond, List, [], ◌∷◌, length, take, Option, Some, None, Result, Ok, Err, IfSome, option_map, refl, ap, ◌∙◌, arith}
+use Rattle.std.proofs.Common.{◌≡◌, ℕ, true, false, cond, List, [], ◌∷◌, length, take, Option}
+use Rattle.std.proofs.Common.{Some, None, Result, Ok, Err, IfSome, option_map, refl, ap, ◌∙◌, arith}
 use Rattle.std.specs.Prelude.{IsSomeAnd, nat_lt, codes, option_and_then}
 use Rattle.std.specs.FinMap as map
 use Rattle.build_outcome.specs.Index.{IndexData}
@@ -10,7 +11,9 @@ use Rattle.command_words.specs.Options.{OptionsData}
 use Rattle.command_words.specs.Words.{CommandData, PilotsOf, BuildOf, QueryOf}
 use Rattle.hem_build.specs.Rules.{rules_of}
 use Rattle.index_file.specs.Encoded.{EncodedIndex}
+use Rattle.index_text.specs.declared.fault.IndexFault.{IndexFault}
 use Rattle.index_text.specs.Reading.{index_at}
+use Rattle.pilot_codecs.specs.declared.code.Encoding.{Encoding}
 use Rattle.pth_outside.specs.Files.{FileMap}
 use Rattle.pth_outside.specs.Keys.{keys_of, first_too_long}
 use Rattle.pth_top.specs.declared.TheConstants.{REPEATED_KEY}
@@ -18,7 +21,7 @@ use Rattle.pth_top.specs.Done.{Done}
 use Rattle.pth_top.specs.Lists.{HasRepeat, and_then, gives, list_in, unless_too_long, too_many_result, index_by, index_for, index_in}
 use Rattle.pth_top.specs.Build.{build_result, index_file_of}
 use Rattle.pth_top.specs.Pilots.{pilots_result, pilots_of_index}
-use Rattle.pth_top.specs.Query.{index_read, unless_faulty, query_result, values_of}
+use Rattle.pth_top.specs.Query.{faulty_result, index_read, unless_faulty, query_result, values_of}
 use Rattle.pth_top.specs.Words.{command_result, with_index, CommandRepeats}
 
 -- an outcome with this status
@@ -87,11 +90,11 @@ not_of_queries index (Some bytes) d is status =
     not_of_lines (keys_of bytes) (first_too_long (take 67108864 (keys_of bytes))) 67108864 index (ap (λ (x : Done). x.status) same ∙ status)
 
 -- nor does an index
-not_of_index : (read : Result (IndexData × Rattle.pilot_codecs.specs.declared.code.Encoding.Encoding) Rattle.index_text.specs.declared.fault.IndexFault.IndexFault)
-    (found : Option (List ℕ)) (d : Done) → with_index (unless_faulty read) (λ x. option_map (query_result x) found) ≡ Some d →
+not_of_index : (read : Result (IndexData × Encoding) IndexFault) (found : Option (List ℕ)) (d : Done) →
+    with_index (unless_faulty read) (λ x. option_map (query_result x) found) ≡ Some d →
     d.status ≡ REPEATED_KEY → ⊥
 not_of_index (Err fault) found d is status =
-    let same : (Rattle.pth_top.specs.Query.faulty_result fault).status ≡ d.status = cc in omega arith
+    let same : (faulty_result fault).status ≡ d.status = cc in omega arith
 not_of_index (Ok read) found d is status = not_of_queries (record { index = read.0; enc = read.1 }) found d is status
 
 -- nor do two files

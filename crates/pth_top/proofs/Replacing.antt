@@ -1,5 +1,6 @@
 -- A file that is written under another name and put in its place.
-use Rattle.std.proofs.Common.{◌≡◌, ◌≢◌, ℕ, ◌+◌, ◌-◌, List, [], ◌++◌, length, take, drop, slice_range, Option, Some, None, Result, Ok, Err, OnErr, option_map, IsErrOf}
+use Rattle.std.proofs.Common.{◌≡◌, ◌≢◌, ℕ, ◌+◌, ◌-◌, List, [], ◌++◌, length, take, drop}
+use Rattle.std.proofs.Common.{slice_range, Option, Some, None, Result, Ok, Err, OnErr, option_map, IsErrOf}
 use Rattle.std.proofs.Common.{refl, sym, ap, ◌∙◌, subst, length-append, arith}
 use Rattle.std.proofs.Math.Seq.{take-add}
 use Rattle.std.proofs.lemmas.List.{append_assoc}
@@ -96,7 +97,8 @@ changes-then name old now new first second = record {
 }
 
 -- a piece that was not appended whole
-pub changes-by_error : (name piece : List ℕ) (old new : Option FileMap) (e : FileErr) → (IsErrOf {T = Unit {0}} (Err e) Failed → AppendsFront name piece old new) →
+pub changes-by_error : (name piece : List ℕ) (old new : Option FileMap) (e : FileErr) →
+    (IsErrOf {T = Unit {0}} (Err e) Failed → AppendsFront name piece old new) →
     (IsErrOf {T = Unit {0}} (Err e) NoMemory → new ≡ old) → ChangesOnly name old new
 changes-by_error name piece old new Failed front kept = changes-appended name (take (front refl).0 piece) old new (front refl).1
 changes-by_error name piece old new NoMemory front kept = changes-none name old new (kept refl)

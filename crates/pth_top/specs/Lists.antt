@@ -1,5 +1,6 @@
 -- What the bytes of a file of keys come to: its list of keys, their index, or why there is none.
-use Rattle.std.specs.Prelude.{◌≡◌, ℕ, ◌+◌, List, [], ◌∷◌, ◌++◌, length, take, codes, nat_lt, if◌then◌else◌, Option, Some, None, Result, Ok, Err}
+use Rattle.std.specs.Prelude.{◌≡◌, ℕ, ◌+◌, List, [], ◌∷◌, ◌++◌, length, take}
+use Rattle.std.specs.Prelude.{codes, nat_lt, if◌then◌else◌, Option, Some, None, Result, Ok, Err}
 use Rattle.build_outcome.specs.Index.{IndexData}
 use Rattle.build_outcome.specs.IndexLaws.{IsOneToOne}
 use Rattle.build_outcome.specs.Outcome.{Outcome, repeated, exhausted, built, outcome_of}

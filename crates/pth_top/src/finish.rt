@@ -1,5 +1,6 @@
 // The end of a command: its file, its text and its status.
-ghost use Rattle.std.specs.Prelude.{◌≡◌, ◌≢◌, ◌≤◌, ◌⊎◌, IfOk, IfErr, IsErr, OnOk, OnErr, IsErrOf, None, length, option_map, string_bytes};
+ghost use Rattle.std.specs.Prelude.{◌≡◌, ◌≢◌, ◌≤◌, ◌⊎◌, None, length, option_map, string_bytes};
+ghost use Rattle.std.specs.Prelude.{IfOk, IfErr, IsErr, OnOk, OnErr, IsErrOf};
 ghost use Rattle.command_words.specs.Names.{tmp_of};
 ghost use Rattle.pth_outside.specs.Files.{LeavesFiles, appended, contents};
 ghost use Rattle.pth_outside.specs.Sink.{LeavesSink, Prints, WritesFront, written};

@@ -2,7 +2,9 @@
 ghost use Rattle.std.specs.Prelude.{◌≡◌, ◌+◌, ◌++◌, ◌≤◌, List, OnOk, IfOk, string_bytes, decimal};
 ghost use Rattle.pthash.specs.declared.TheConstants.{MIN_ALPHA, MAX_ALPHA};
 ghost use Rattle.pth_top.specs.Pilots.{parts_lines};
-ghost use Rattle.pth_top.specs.Texts.{cause_line, cause_lines, kind_name, part_lines, refused_word, repeated_key, same_hash_line, seed_lines, seeds_exhausted, spaced, stuck_line, too_long, too_many};
+ghost use Rattle.pth_top.specs.Texts.{kind_name, refused_word, repeated_key, too_long, too_many};
+ghost use Rattle.pth_top.specs.Texts.{part_lines, seed_lines, spaced};
+ghost use Rattle.pth_top.specs.Texts.{cause_line, cause_lines, same_hash_line, seeds_exhausted, stuck_line};
 
 use bucket_map::table_size;
 use command_words::{WordFault, kinds};
