@@ -1,0 +1,142 @@
+#!/usr/bin/env python3
+"""Times whole runs of `build` and `query` and prints tables: how time and memory grow with the list, and what each setting costs.
+
+usage: builds.py growth PROGRAM PLOT COUNT ..   a row for each count of keys, with one worker and with 64 partitions and 4; PLOT is an SVG
+       builds.py settings PROGRAM COUNT         a row for each encoding and for values of `c`, `alpha`, `parts` and `workers`
+
+The keys are of 16 hexadecimal digits. Each figure is the least of three runs, of one where a list has above 10,000,000 keys. A peak
+below that of Python itself (about 15 MB) can't be seen.
+"""
+import math
+import os
+import pathlib
+import random
+import subprocess
+import sys
+import tempfile
+import time
+
+USUAL = ("parts=1", "workers=1")
+WIDE = ("parts=64", "workers=4")
+CODES = ("c", "pc", "d", "ef")
+
+
+class Run:
+    """Wall clock, processor time and peak of one process."""
+
+    def __init__(self, words, output):
+        with open(output, "wb") as out:
+            start = time.monotonic()
+            child = subprocess.Popen(words, stdout=out)
+            _, status, usage = os.wait4(child.pid, 0)
+            self.seconds = time.monotonic() - start
+        child.returncode = os.waitstatus_to_exitcode(status)
+        self.bytes = usage.ru_maxrss * 1024
+        self.is_done = child.returncode == 0
+
+
+def write_keys(path, count):
+    numbers = random.Random(count)
+    with open(path, "w") as out:
+        for at in range(0, count, 100_000):
+            size = min(100_000, count - at)
+            out.write("".join(f"{numbers.getrandbits(64):016x}\n" for _ in range(size)))
+
+
+def least(words, output, runs):
+    """The least seconds and the greatest peak of so many runs, or `None` where one gave up."""
+    tried = [Run(words, output) for _ in range(runs)]
+    if not all(run.is_done for run in tried):
+        return None
+    return min(run.seconds for run in tried), max(run.bytes for run in tried)
+
+
+def growth(program, plot, counts):
+    print("| keys | settings | build | a key | peak | a key | index, bits a key |")
+    print("|---|---|---|---|---|---|---|")
+    lines = {USUAL: [], WIDE: []}
+    with tempfile.TemporaryDirectory() as room:
+        keys, index, text = (f"{room}/{name}" for name in ("keys", "index", "text"))
+        for count in counts:
+            write_keys(keys, count)
+            for words in lines:
+                found = least([program, "build", keys, index, *words], text, 1 if count > 10_000_000 else 3)
+                if found is None:
+                    print(f"| {count:,} | {' '.join(words)} | gave up | | | | |", flush=True)
+                    continue
+                seconds, peak = found
+                bits = os.path.getsize(index) * 8 / count
+                lines[words].append((count, seconds / count * 1e9, peak / count))
+                print(f"| {count:,} | {' '.join(words)} | {seconds:.3f} s | {seconds / count * 1e9:.0f} ns | {peak / 1e6:.1f} MB "
+                      f"| {peak / count:.1f} bytes | {bits:.3f} |", flush=True)
+    pathlib.Path(plot).write_text(svg_of(lines))
+
+
+def svg_of(lines):
+    """Two panels over the number of keys, each a line for each choice of settings."""
+    panels = [("nanoseconds a key", 1), ("bytes of memory a key", 2)]
+    out = ['<svg xmlns="http://www.w3.org/2000/svg" width="760" height="320" font-family="sans-serif" font-size="12">',
+           '<rect width="760" height="320" fill="white"/>']
+    for at, (title, column) in enumerate(panels):
+        out += panel(60 + at * 370, title, {words: [(row[0], row[column]) for row in rows] for words, rows in lines.items() if rows})
+    return "\n".join([*out, "</svg>", ""])
+
+
+def panel(left, title, lines):
+    """One panel: a linear axis from 0 upward, and powers of ten to the right."""
+    width, top, height = 280, 40, 220
+    most = max(value for rows in lines.values() for _, value in rows) * 1.1
+    powers = [math.log10(count) for rows in lines.values() for count, _ in rows]
+    first, last = math.floor(min(powers)), math.ceil(max(powers))
+
+    def place(count, value):
+        return left + (math.log10(count) - first) / max(1, last - first) * width, top + height - value / most * height
+
+    out = [f'<text x="{left}" y="24" font-weight="bold">{title}</text>']
+    for step in range(5):
+        value = most * step / 4
+        y = place(10**first, value)[1]
+        out.append(f'<line x1="{left}" y1="{y:.1f}" x2="{left + width}" y2="{y:.1f}" stroke="#ddd"/>')
+        out.append(f'<text x="{left - 6}" y="{y + 4:.1f}" text-anchor="end">{value:.0f}</text>')
+    for power in range(first, last + 1):
+        x = place(10**power, 0)[0]
+        out.append(f'<text x="{x:.1f}" y="{top + height + 18}" text-anchor="middle">10<tspan dy="-5" font-size="9">{power}</tspan></text>')
+    for number, (words, rows) in enumerate(lines.items()):
+        colour = ("#1f5fa8", "#c0562a")[number]
+        points = " ".join("{:.1f},{:.1f}".format(*place(*row)) for row in rows)
+        out.append(f'<polyline points="{points}" fill="none" stroke="{colour}" stroke-width="2"/>')
+        out.append(f'<text x="{left}" y="{top + height + 36 + 14 * number}" fill="{colour}">{" ".join(words)}</text>')
+    return out
+
+
+def settings(program, count):
+    """What each encoding costs, and each of the other settings beside the usual ones."""
+    encodings = [f"enc={code}" for code in CODES] + [f"enc={front}-{back}" for front in CODES for back in CODES]
+    rows = [[], *([it] for it in encodings), *([f"c={c}"] for c in (300, 400, 500, 900, 1100)), *([f"alpha={a}"] for a in (90, 94, 99)),
+            *([f"parts={parts}"] for parts in (4, 16, 64, 256, 1024)), ["map=uniform"], ["parts=64", "workers=4"]]
+    print(f"| {count:,} keys | build | query | index, bits a key |")
+    print("|---|---|---|---|")
+    with tempfile.TemporaryDirectory() as room:
+        keys, index, text = (f"{room}/{name}" for name in ("keys", "index", "text"))
+        write_keys(keys, count)
+        for words in rows:
+            full = [*words, *(it for it in USUAL if not any(word.split("=")[0] == it.split("=")[0] for word in words))]
+            built = least([program, "build", keys, index, *full], text, 3)
+            asked = built and least([program, "query", index, keys], text, 3)
+            if asked:
+                print(f"| {' '.join(words) or 'no words'} | {built[0]:.3f} s | {asked[0]:.3f} s | {os.path.getsize(index) * 8 / count:.3f} |", flush=True)
+            else:
+                print(f"| {' '.join(words) or 'no words'} | gave up | | |", flush=True)
+
+
+def main():
+    if len(sys.argv) > 4 and sys.argv[1] == "growth":
+        growth(sys.argv[2], sys.argv[3], [int(it) for it in sys.argv[4:]])
+    elif len(sys.argv) == 4 and sys.argv[1] == "settings":
+        settings(sys.argv[2], int(sys.argv[3]))
+    else:
+        sys.exit(__doc__)
+
+
+if __name__ == "__main__":
+    main()
