@@ -1,8 +1,9 @@
 #!/usr/bin/env python3
-"""Times whole runs of `build` and `query` and prints tables: how time and memory grow with the list, and what each setting costs.
+"""Times whole runs of `build` and `query` and prints tables: how time and memory grow with the list, and what settings cost.
 
-usage: builds.py growth PROGRAM PLOT COUNT ..   a row for each count of keys, with one worker and with 64 partitions and 4; PLOT is an SVG
-       builds.py settings PROGRAM COUNT         a row for each encoding and for values of `c`, `alpha`, `parts` and `workers`
+usage: builds.py growth PROGRAM PLOT COUNT ..         a row for each count of keys, with one worker and with 64 partitions and 4; PLOT is an SVG
+       builds.py settings PROGRAM COUNT               a row for each encoding and for values of `c`, `alpha`, `parts` and `workers`
+       builds.py workers PROGRAM COUNT [SETTING ..]   a row for each number of workers and each search, all in turns
 
 The keys are of 16 hexadecimal digits. Each figure is the least of three runs, of one where a list has above 10,000,000 keys. A peak
 below that of Python itself (about 15 MB) can't be seen.
@@ -30,6 +31,7 @@ class Run:
             child = subprocess.Popen(words, stdout=out)
             _, status, usage = os.wait4(child.pid, 0)
             self.seconds = time.monotonic() - start
+        self.processor_seconds = usage.ru_utime + usage.ru_stime
         child.returncode = os.waitstatus_to_exitcode(status)
         self.bytes = usage.ru_maxrss * 1024
         self.is_done = child.returncode == 0
@@ -129,9 +131,36 @@ def settings(program, count):
                 print(f"| {' '.join(words) or 'no words'} | gave up | | |", flush=True)
 
 
+def workers(program, count, usual):
+    """Time by the clock and processor time, beside one worker; the indexes must be the same."""
+    rows = [["workers=1"], *(["search=" + search, f"workers={number}"] for search in ("turns", "rounds") for number in (2, 4))]
+    with tempfile.TemporaryDirectory() as room:
+        keys, index, text = (f"{room}/{name}" for name in ("keys", "index", "text"))
+        write_keys(keys, count)
+        tried = {tuple(words): [] for words in rows}
+        indexes = set()
+        for _ in range(3):
+            for words in rows:
+                run = Run([program, "build", keys, index, *usual, *words], text)
+                if not run.is_done:
+                    sys.exit(f"{' '.join(words)}: gave up")
+                tried[tuple(words)].append(run)
+                indexes.add(pathlib.Path(index).read_bytes())
+    if len(indexes) != 1:
+        sys.exit("the indexes differ")
+    print(f"| {count:,} keys, {' '.join(usual) or 'no other words'} | by the clock | beside one worker | processor time |")
+    print("|---|---|---|---|")
+    alone = min(run.seconds for run in tried[tuple(rows[0])])
+    for words, runs in tried.items():
+        seconds = min(run.seconds for run in runs)
+        print(f"| {' '.join(words)} | {seconds:.3f} s | {seconds / alone:.2f} | {min(run.processor_seconds for run in runs):.3f} s |")
+
+
 def main():
     if len(sys.argv) > 4 and sys.argv[1] == "growth":
         growth(sys.argv[2], sys.argv[3], [int(it) for it in sys.argv[4:]])
+    elif len(sys.argv) > 3 and sys.argv[1] == "workers":
+        workers(sys.argv[2], int(sys.argv[3]), sys.argv[4:])
     elif len(sys.argv) == 4 and sys.argv[1] == "settings":
         settings(sys.argv[2], int(sys.argv[3]))
     else:
