@@ -4,6 +4,7 @@
 usage: builds.py growth PROGRAM PLOT COUNT ..         a row for each count of keys, with one worker and with 64 partitions and 4; PLOT is an SVG
        builds.py settings PROGRAM COUNT               a row for each encoding and for values of `c`, `alpha`, `parts` and `workers`
        builds.py workers PROGRAM COUNT [SETTING ..]   a row for each number of workers and each search, all in turns
+       builds.py peers PROGRAM PEERS COUNT ..         rows for BBHash and cmph in memory (PEERS is bench/peers.cpp, built) and for whole runs of ours
 
 The keys are of 16 hexadecimal digits. Each figure is the least of three runs, of one where a list has above 10,000,000 keys. A peak
 below that of Python itself (about 15 MB) can't be seen.
@@ -156,11 +157,33 @@ def workers(program, count, usual):
         print(f"| {' '.join(words)} | {seconds:.3f} s | {seconds / alone:.2f} | {min(run.processor_seconds for run in runs):.3f} s |")
 
 
+def peers(program, others, counts):
+    """Other perfect hashes beside ours. Theirs are timed in memory, ours from file to file, with reading and printing."""
+    print("| keys | method | build | bits a key | lookup | peak |")
+    print("|---|---|---|---|---|---|")
+    with tempfile.TemporaryDirectory() as room:
+        keys, index, text = (f"{room}/{name}" for name in ("keys", "index", "text"))
+        for count in counts:
+            write_keys(keys, count)
+            for name in ("bbhash", "chd", "bdz"):
+                runs = [subprocess.run([others, name, keys], capture_output=True, text=True, check=True).stdout.split() for _ in range(3)]
+                built, bits, lookup, peak = (min(float(run[at]) for run in runs) for at in range(4))
+                print(f"| {count:,} | {name} | {built:.3f} s | {bits:.2f} | {lookup:.0f} ns | {peak:.1f} MiB |", flush=True)
+            for words in (["workers=1"], ["workers=1", "enc=ef"], ["parts=64", "workers=4"]):
+                built = least([program, "build", keys, index, *words], text, 3)
+                asked = least([program, "query", index, keys], text, 3)
+                bits = os.path.getsize(index) * 8 / count
+                print(f"| {count:,} | ours, {' '.join(words)} | {built[0]:.3f} s | {bits:.2f} | {asked[0] / count * 1e9:.0f} ns "
+                      f"| {built[1] / 2**20:.1f} MiB |", flush=True)
+
+
 def main():
     if len(sys.argv) > 4 and sys.argv[1] == "growth":
         growth(sys.argv[2], sys.argv[3], [int(it) for it in sys.argv[4:]])
     elif len(sys.argv) > 3 and sys.argv[1] == "workers":
         workers(sys.argv[2], int(sys.argv[3]), sys.argv[4:])
+    elif len(sys.argv) > 4 and sys.argv[1] == "peers":
+        peers(sys.argv[2], sys.argv[3], [int(it) for it in sys.argv[4:]])
     elif len(sys.argv) == 4 and sys.argv[1] == "settings":
         settings(sys.argv[2], int(sys.argv[3]))
     else:
