@@ -115,6 +115,8 @@ impl Selector {
         self.words.as_slice()
     }
 
+    // Only lists.rs asks this.
+    #[allow(dead_code)]
     pub fn sample_bits(&self) -> usize {
         32 * self.samples.len()
     }
@@ -231,13 +233,13 @@ impl EliasFano {
     }
 
     /// With every check: the padding, the number of ones, the order by one walk, the last value.
-    pub fn read(count: u64, bytes: &[u8]) -> Option<EliasFano> {
+    pub fn read(count: u64, bytes: &[u8]) -> Option<(EliasFano, &[u8])> {
         let (last, rest) = take_number(bytes)?;
         let width = low_width(count, last);
         let low_bits = count * u64::from(width);
         let high_bits = count + (last >> width) + 1;
         let (low, rest) = take_words(rest, low_bits.div_ceil(64) as usize)?;
-        let (high, _) = take_words(rest, high_bits.div_ceil(64) as usize)?;
+        let (high, rest) = take_words(rest, high_bits.div_ceil(64) as usize)?;
         if !is_padded(&low, low_bits) || !is_padded(&high, high_bits) {
             return None;
         }
@@ -257,7 +259,7 @@ impl EliasFano {
                 rest &= rest - 1;
             }
         }
-        if before == last { Some(list) } else { None }
+        if before == last { Some((list, rest)) } else { None }
     }
 }
 

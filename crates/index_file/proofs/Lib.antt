@@ -1,5 +1,4 @@
 pub mod Totals
-pub mod Spreading
 pub mod Counting
 pub mod Faults
 pub mod ListSteps

@@ -6,6 +6,7 @@ use Rattle.std.proofs.Common.{get_or, refl, sym, ap, ◌∙◌, subst, drop-cons
 use Rattle.std.proofs.Math.Nat.{mod-lt}
 use Rattle.std.proofs.lemmas.List.{length-map, get_or-map}
 use Rattle.std.proofs.lemmas.List.Sums.{sum_by-cons}
+use Rattle.pthash.specs.declared.Map.{Map}
 use Rattle.build_outcome.specs.Index.{PartData}
 use Rattle.build_outcome.specs.Values.{part_size, position_value, pair_position, part_at, key_count}
 use Rattle.build_outcome.specs.ValidValueLaws.{position_value-lt, key_count-take}
@@ -54,13 +55,13 @@ part_is : (parts : List (Option Lists)) (q : ℕ) (d part : Option Lists) → q 
 part_is parts q d part within is = get_or-map part_data parts q d (record { n = 0; pilots = []; free = [] }) within ∙ ap part_data is
 
 -- the position of a pair in a partition with a key is one of its positions
-position-lt : (lists : Lists) (seed a b : ℕ) → pair_position lists.spread.map seed (lists_data lists) a b < part_size (lists_data lists)
-position-lt lists seed a b = let some = lists.some in mod-lt _ (omega arith)
+position-lt : (lists : Lists) (spread : Map) (seed a b : ℕ) → pair_position spread seed (lists_data lists) a b < part_size (lists_data lists)
+position-lt lists spread seed a b = let some = lists.some in mod-lt _ (omega arith)
 
 -- the value in a partition, behind the partitions before, is below the number of keys
 pub value_fits : (held : Held) (q : ℕ) (d : Option Lists) (lists : Lists) (a b : ℕ) → IsValidIndex (held_data held) → q < length held.parts.items →
     get_or held.parts.items q d ≡ Some lists →
-    key_count (take q (parts_data held.parts.items)) + position_value lists.n lists.free (pair_position lists.spread.map held.seed (lists_data lists) a b)
+    key_count (take q (parts_data held.parts.items)) + position_value lists.n lists.free (pair_position held.shape.map held.seed (lists_data lists) a b)
     < held.n
 value_fits held q d lists a b valid within is =
     let parts = parts_data held.parts.items in
@@ -69,8 +70,8 @@ value_fits held q d lists a b valid within is =
     let shape = (held_data held).shape in
     let here : IsValidPart shape (part_at parts q) = valid.parts q (record { n = 0; pilots = []; free = [] }) inside in
     let good : IsValidPart shape (lists_data lists) = subst (IsValidPart shape) part here in
-    let low = position_value-lt shape (lists_data lists) (pair_position lists.spread.map held.seed (lists_data lists) a b) good
-    (position-lt lists held.seed a b) in
+    let low = position_value-lt shape (lists_data lists) (pair_position held.shape.map held.seed (lists_data lists) a b) good
+    (position-lt lists held.shape.map held.seed a b) in
     let keys : (part_at parts q).n ≡ lists.n = ap (λ (p : PartData). p.n) part in
     omega (arith, key_count-take parts q inside, valid.counted)
 

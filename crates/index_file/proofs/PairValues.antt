@@ -1,10 +1,9 @@
 -- The value of a pair of hashes, and of a key, from what an index keeps.
 use Rattle.std.specs.Prelude.{◌≡◌, ℕ, ◌+◌, ◌<◌, ◌==◌, ◌↔◌, Bool, true, false, cond, List, [], length, take}
 use Rattle.std.specs.Prelude.{Option, Some, None, option_map}
-use Rattle.std.proofs.Common.{get_or, refl, sym, ap, ◌∙◌, subst, arith}
+use Rattle.std.proofs.Common.{get_or, refl, sym, ap, ◌∙◌, arith}
 use Rattle.std.proofs.lemmas.Bool.{ne_eqb, eqb-true, eqb-false}
 use Rattle.std.proofs.lemmas.List.{length-map, get_or-map}
-use Rattle.pthash.specs.declared.Map.{Map}
 use Rattle.pthash.specs.Hash.{first_hash, second_hash}
 use Rattle.pthash.specs.Sizes.{partition_of}
 use Rattle.build_outcome.specs.Index.{PartData, IndexData}
@@ -13,7 +12,7 @@ use Rattle.index_file.specs.declared.lists.Lists.{Lists}
 use Rattle.index_file.specs.declared.held.Held.{Held}
 use Rattle.index_file.specs.Encoded.{keys_beside}
 use Rattle.index_file.specs.Lists.{lists_data, part_data}
-use Rattle.index_file.specs.Held.{parts_data, held_data, IsHeld, IsUnder}
+use Rattle.index_file.specs.Held.{parts_data, held_data}
 
 -- the partition of a pair
 abbrev pub place_of_pair : Held → ℕ → ℕ → ℕ
@@ -49,23 +48,18 @@ pub pair_value-none : (held : Held) (a b q : ℕ) (d : Option Lists) → q ≡ p
 pair_value-none held a b q d place within is = sym (value_in_part held a b q d None place within is)
 
 -- a pair whose partition has a key has the value in it, behind the partitions before
-pub pair_value-some : (held : Held) (a b q : ℕ) (d : Option Lists) (lists : Lists) → IsHeld held → q ≡ place_of_pair held a b →
+pub pair_value-some : (held : Held) (a b q : ℕ) (d : Option Lists) (lists : Lists) → q ≡ place_of_pair held a b →
     q < length held.parts.items → get_or held.parts.items q d ≡ Some lists →
     Some (key_count (take q (parts_data held.parts.items))
-    + position_value lists.n lists.free (pair_position lists.spread.map held.seed (lists_data lists) a b))
+    + position_value lists.n lists.free (pair_position held.shape.map held.seed (lists_data lists) a b))
     ≡ pair_value (held_data held) a b
-pair_value-some held a b q d lists beside place within is =
+pair_value-some held a b q d lists place within is =
     let parts = parts_data held.parts.items in
-    let under : IsUnder held.shape.map held.enc (Some lists) =
-    subst (IsUnder held.shape.map held.enc) is (beside.under q d within) in
     let some = lists.some in
     let other : lists.n ≡ 0 → ⊥ = λ none. omega arith in
-    let value = λ (m : Map). position_value lists.n lists.free (pair_position m held.seed (lists_data lists) a b) in
-    let here : part_value held.shape.map held.seed (lists_data lists) a b ≡ Some (value held.shape.map) =
-    ap (λ t. cond t None (Some (value held.shape.map))) (ne_eqb lists.n 0 other) in
-    sym (value_in_part held a b q d (Some lists) place within is
-    ∙ ap (option_map (λ v. key_count (take q parts) + v)) here
-    ∙ ap (λ m. Some (key_count (take q parts) + value m)) (sym under.0))
+    let value = position_value lists.n lists.free (pair_position held.shape.map held.seed (lists_data lists) a b) in
+    let here : part_value held.shape.map held.seed (lists_data lists) a b ≡ Some value = ap (λ t. cond t None (Some value)) (ne_eqb lists.n 0 other) in
+    sym (value_in_part held a b q d (Some lists) place within is ∙ ap (option_map (λ v. key_count (take q parts) + v)) here)
 
 -- the value of a key is that of its pair of hashes
 pub value_of-pair : (x : IndexData) (key : List ℕ) (a b : ℕ) → a ≡ first_hash key x.seed → b ≡ second_hash key x.seed →

@@ -31,7 +31,7 @@ pub record ArePartitions (bytes : List ℕ) (enc : Encoding) (shape : ShapeData)
   pub read : partitions_at (length bytes) enc shape 0 counts (drop at bytes)
       ≡ before (parts_data parts) (partitions_at (length bytes) enc shape i (drop i counts) (drop place bytes))
   pub within : place ≤ length bytes
-  pub under : All (IsUnder shape.map enc) parts
+  pub under : All (IsUnder enc) parts
 
 -- before any partition
 pub partitions_first : (bytes : List ℕ) (enc : Encoding) (shape : ShapeData) (counts : List ℕ) (at : ℕ) → at ≤ length bytes →
@@ -39,7 +39,7 @@ pub partitions_first : (bytes : List ℕ) (enc : Encoding) (shape : ShapeData) (
 partitions_first bytes enc shape counts at within = record {
   read = same (partitions_at (length bytes) enc shape 0 counts (drop at bytes));
   within = within;
-  under = All-nil (IsUnder shape.map enc);
+  under = All-nil (IsUnder enc);
 }
   where
     same : (r : Result (List PartData × List ℕ) IndexFault) → r ≡ before [] r
@@ -60,7 +60,7 @@ next_partition bytes enc shape counts i place within =
 pub partitions_more : (bytes : List ℕ) (enc : Encoding) (shape : ShapeData) (counts : List ℕ) (at i : ℕ) (parts : List (Option Lists)) (place : ℕ)
     (lists : Option Lists) (next : ℕ) → i < length counts → ArePartitions bytes enc shape counts at i parts place →
     partition_at (length bytes) enc shape i (get_or counts i 0) (drop place bytes) ≡ Ok (part_data lists, drop next bytes) → next ≤ length bytes →
-    IsUnder shape.map enc lists → ArePartitions bytes enc shape counts at (i + 1) (parts ++ lists ∷ []) next
+    IsUnder enc lists → ArePartitions bytes enc shape counts at (i + 1) (parts ++ lists ∷ []) next
 partitions_more bytes enc shape counts at i parts place lists next more so_far read within under =
     let rest = partitions_at (length bytes) enc shape (i + 1) (drop (i + 1) counts) (drop next bytes) in
     let step : partitions_at (length bytes) enc shape i (drop i counts) (drop place bytes) ≡
@@ -72,7 +72,7 @@ partitions_more bytes enc shape counts at i parts place lists next more so_far r
       read = so_far.read ∙ ap (before (parts_data parts)) step ∙ before_more (parts_data parts) (part_data lists) rest
           ∙ ap (λ (ps : List PartData). before ps rest) (sym (map-append part_data parts (lists ∷ [])));
       within = within;
-      under = All-push (IsUnder shape.map enc) parts lists so_far.under under;
+      under = All-push (IsUnder enc) parts lists so_far.under under;
     }
 
 -- a fault of the next partition is the fault of all

@@ -5,7 +5,6 @@ use Rattle.std.specs.List.{flat_map}
 use Rattle.std.proofs.Common.{get_or, refl, sym, ap, ◌∙◌, subst, append_assoc, append-nil, drop-cons, add-one, arith}
 use Rattle.std.proofs.lemmas.List.{nil_from_length, length-drop, drop_at}
 use Rattle.std.proofs.lemmas.List.Elements.{All-head, All-tail}
-use Rattle.pthash.specs.declared.Map.{Map}
 use Rattle.elias_fano.specs.Spelling.{number, ef_text}
 use Rattle.pilot_codecs.specs.declared.code.Encoding.{Encoding}
 use Rattle.pilot_codecs.specs.Spelling.{pair_text}
@@ -50,21 +49,21 @@ count_pieces (None ∷ parts) = ap (λ (t : List ℕ). number 0 ++ t) (count_pie
 count_pieces (Some lists ∷ parts) = ap (λ (t : List ℕ). number lists.n ++ t) (count_pieces parts)
 
 -- a partition as a piece
-own_piece : (spread : Map) (enc : Encoding) (part : Option Lists) → IsUnder spread enc part → own_text part ≡ part_text enc (part_data part)
+own_piece : (enc : Encoding) (part : Option Lists) → IsUnder enc part → own_text part ≡ part_text enc (part_data part)
 unfolding part_text
-own_piece spread enc None under = refl
-own_piece spread enc (Some lists) under =
+own_piece enc None under = refl
+own_piece enc (Some lists) under =
     let some = lists.some in
-    ap (λ (e : Encoding). pair_text e lists.pilots.values ++ ef_text lists.free) under.1
+    ap (λ (e : Encoding). pair_text e lists.pilots.values ++ ef_text lists.free) under
     ∙ sym (part_text-some enc (lists_data lists) (omega arith))
 
 -- the partitions as pieces
-pub own_pieces : (spread : Map) (enc : Encoding) (parts : List (Option Lists)) → All (IsUnder spread enc) parts →
+pub own_pieces : (enc : Encoding) (parts : List (Option Lists)) → All (IsUnder enc) parts →
     flat_map own_text parts ≡ parts_text enc (parts_data parts)
-own_pieces spread enc [] under = refl
-own_pieces spread enc (part ∷ parts) under =
-    let first = own_piece spread enc part (All-head (IsUnder spread enc) part parts under) in
-    let others = own_pieces spread enc parts (All-tail (IsUnder spread enc) part parts under) in
+own_pieces enc [] under = refl
+own_pieces enc (part ∷ parts) under =
+    let first = own_piece enc part (All-head (IsUnder enc) part parts under) in
+    let others = own_pieces enc parts (All-tail (IsUnder enc) part parts under) in
     λ i. first i ++ others i
 
 -- three pieces
@@ -84,7 +83,7 @@ body_is held mark old o1 o2 o3 o4 head ps qs beside one fields two three p four 
     let numbers = flat_map number (mark.sum ∷ mark.xor ∷ []) in
     let counts : flat_map count_text ps ≡ flat_map number (key_counts (parts_data parts)) = ap (λ xs. flat_map count_text xs) p ∙ count_pieces parts in
     let lists : flat_map own_text qs ≡ parts_text held.enc (parts_data parts) =
-    ap (λ xs. flat_map own_text xs) q ∙ own_pieces held.shape.map held.enc parts beside.under in
+    ap (λ xs. flat_map own_text xs) q ∙ own_pieces held.enc parts beside.under in
     let behind : o4 ≡ o1 ++ (numbers ++ (flat_map number (key_counts (parts_data parts)) ++ parts_text held.enc (parts_data parts))) =
     three_pieces o1 o2 o3 o4 numbers (flat_map number (key_counts (parts_data parts))) (parts_text held.enc (parts_data parts)) two
     (three ∙ ap (λ (t : List ℕ). o2 ++ t) counts) (four ∙ ap (λ (t : List ℕ). o3 ++ t) lists) in

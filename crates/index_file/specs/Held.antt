@@ -1,6 +1,5 @@
 -- What an index keeps, as plain data.
 use Rattle.std.specs.Prelude.{◌≡◌, ℕ, List, length, map, Option, Some, None, All}
-use Rattle.pthash.specs.declared.Map.{Map}
 use Rattle.bucket_map.specs.ShapeData.{shape_data}
 use Rattle.pilot_codecs.specs.declared.code.Encoding.{Encoding}
 use Rattle.build_outcome.specs.Index.{PartData, IndexData}
@@ -30,15 +29,15 @@ held_data held = record {
 abbrev pub encoded_of : Held → EncodedIndex
 encoded_of held = record { index = held_data held; enc = held.enc }
 
--- the lists of a partition are under this map and this encoding
-abbrev pub IsUnder : Map → Encoding → Option Lists → Type 0
-IsUnder spread enc None = Unit {0}
-IsUnder spread enc (Some lists) = (lists.spread.map ≡ spread) × (lists.pilots.enc ≡ enc)
+-- the pilots of a partition are in this encoding
+abbrev pub IsUnder : Encoding → Option Lists → Type 0
+IsUnder enc None = Unit {0}
+IsUnder enc (Some lists) = lists.pilots.enc ≡ enc
 
 -- what is kept beside the partitions is theirs
 pub record IsHeld (held : Held) : Type 0 where
   pub starts : held.starts.items ≡ starts_from 0 (key_counts (parts_data held.parts.items))
-  pub under : All (IsUnder held.shape.map held.enc) held.parts.items
+  pub under : All (IsUnder held.enc) held.parts.items
 
 -- a valid index is kept, and its file has so many bytes
 pub record IsKept (held : Held) (bytes : ℕ) : Type 0 where

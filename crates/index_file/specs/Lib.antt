@@ -1,4 +1,3 @@
-pub mod Spread
 pub mod Lists
 pub mod Starts
 pub mod Encoded

@@ -9,7 +9,6 @@ mod index;
 mod lists;
 mod partitions;
 mod reading;
-mod spread;
 mod values;
 mod writing;
 

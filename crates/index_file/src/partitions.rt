@@ -9,8 +9,7 @@ ghost use Rattle.index_file.specs.Lists.{part_data};
 ghost use Rattle.index_file.specs.Held.{parts_data, IsUnder};
 
 use crate::lists::Lists;
-use crate::spread::Spread;
-use bucket_map::{MAX_PILOTS, Shape, bucket_count, table_size};
+use bucket_map::{BucketDivisors, MAX_PILOTS, Shape, bucket_count, table_size};
 use divisor::Divisor;
 use elias_fano::EliasFano;
 use index_text::IndexFault;
@@ -89,7 +88,7 @@ fn lists_of(
     requires few { n ≤ MAX_KEYS }
     ensures value { Gives (λ x. (part_data x.0, drop x.1 bytes.now)) result
         (partition_at (length bytes.now) enc (shape_data shape) number n (drop at bytes.now)) }
-    ensures under { IfOk result (λ x. IsUnder shape.map enc x.0) }
+    ensures under { IfOk result (λ x. IsUnder enc x.0) }
     ensures within { IfOk result (λ x. x.1 ≤ length bytes.now) }
 {
     if n == 0 {
@@ -103,7 +102,7 @@ fn lists_of(
         n,
         pilots,
         free,
-        spread: Spread::new(shape.map, buckets),
+        buckets: BucketDivisors::new(buckets),
         size: Divisor::new(size),
     };
     Ok((Some(lists), at))
@@ -123,7 +122,7 @@ pub(crate) fn partitions_of(
     requires small { below_len (MAX_KEYS + 1) counts.now ≡ length counts.now }
     ensures value { Gives (λ x. (parts_data x.0.items, drop x.1 bytes.now)) result
         (partitions_at (length bytes.now) enc (shape_data shape) 0 counts.now (drop at bytes.now)) }
-    ensures under { IfOk result (λ x. All (IsUnder shape.map enc) x.0.items) }
+    ensures under { IfOk result (λ x. All (IsUnder enc) x.0.items) }
     ensures within { IfOk result (λ x. x.1 ≤ length bytes.now) }
 {
     let mut parts = Vec::new(alloc);

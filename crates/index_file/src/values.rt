@@ -7,16 +7,16 @@ ghost use Rattle.index_file.specs.Lists.{lists_data};
 
 use crate::held::Held;
 use crate::lists::Lists;
-use bucket_map::partition_of;
+use bucket_map::{Map, partition_of};
 use murmur64::{HashPair, hash_pair, pilot_hash};
 
-// The value of a pair of hashes in a partition.
+// The value of a pair of hashes in a partition under a map.
 #[inline]
-pub(crate) fn value_in(lists: &Lists, pair: HashPair, seed: u64) -> u64
+pub(crate) fn value_in(lists: &Lists, map: Map, pair: HashPair, seed: u64) -> u64
     ensures { result ≡ position_value lists.now.n lists.now.free
-        (pair_position lists.now.spread.map seed (lists_data lists.now) pair.a pair.b) }
+        (pair_position map seed (lists_data lists.now) pair.a pair.b) }
 {
-    let bucket = lists.spread.bucket(pair.a);
+    let bucket = lists.buckets.bucket(map, pair.a);
     let pilot = lists.pilots.get(bucket).unwrap();
     let position = lists.size.remainder(pair.b ^ pilot_hash(pilot, seed));
     if position < lists.n {
@@ -36,7 +36,7 @@ pub(crate) fn value_of_pair(held: &Held, pair: HashPair) -> Option<u64>
     let q = partition_of(pair.a, pair.b, held.parts.len() as u32) as usize;
     match &held.parts[q] {
         None => None,
-        Some(lists) => Some(held.starts[q] + value_in(lists, pair, held.seed)),
+        Some(lists) => Some(held.starts[q] + value_in(lists, held.shape.map, pair, held.seed)),
     }
 }
 

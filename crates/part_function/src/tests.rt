@@ -95,29 +95,54 @@ fn a_taken_position_is_stuck(rt: HostRuntime) -> Result<(), Fail> {
     Ok(())
 }
 
-// The size of a table, its free positions, and its free list.
-const FREE_LISTS: [(u64, &[u64], &[u64]); 14] = [
-    (1, &[0], &[0]),
-    (1, &[], &[]),
-    (3, &[1, 2], &[0, 0]),
-    (3, &[1], &[1]),
-    (5, &[0, 1], &[0, 1]),
-    (9, &[5, 6], &[5, 6]),
-    (6, &[1, 3], &[1, 3]),
-    (6, &[3, 4], &[3, 3]),
-    (6, &[2, 5], &[2, 2]),
-    (6, &[4, 5], &[0, 0]),
-    (20, &[4, 8, 12, 16], &[4, 4, 8, 12]),
-    (20, &[6, 9, 17, 19], &[6, 9, 9, 9]),
-    (41, &[20], &[20]),
-    (
-        77,
-        &[
-            2, 4, 6, 15, 23, 31, 36, 44, 47, 53, 54, 57, 61, 63, 64, 74, 76,
-        ],
-        &[2, 4, 4, 6, 6, 6, 15, 23, 31, 36, 44, 47, 53, 54, 57, 57, 57],
-    ),
+// The size of a table, its free positions, and its free list; a list that is empty is a dash.
+const FREE_LISTS: [&str; 34] = [
+    "1 0 0",
+    "1 - -",
+    "2 1 0",
+    "3 1,2 0,0",
+    "3 2 0",
+    "3 1 1",
+    "5 0,3 0,0",
+    "5 0,1 0,1",
+    "5 - -",
+    "9 5,6 5,6",
+    "9 0,3 0,3",
+    "9 0,5 0,5",
+    "11 9 9",
+    "11 6 6",
+    "11 2 2",
+    "20 4,8,12,16 4,4,8,12",
+    "20 6,9,17,19 6,9,9,9",
+    "20 2,7,9,18 2,7,9,9",
+    "41 0 0",
+    "41 20 20",
+    "41 36 36",
+    "77 2,4,6,15,23,31,36,44,47,53,54,57,61,63,64,74,76 2,4,4,6,6,6,15,23,31,36,44,47,53,54,57,57,57",
+    "77 2,15,17,20,24,26,29,35,43,46,52,54,60,61,65,71,73 2,2,2,15,17,20,20,24,26,29,35,43,43,46,46,52,54",
+    "77 0,3,10,14,19,27,29,41,42,43,44,50,57,59,61,66,76 0,3,3,10,14,19,27,27,29,41,42,43,44,50,57,59,59",
+    "7 0,1,2 0,1,2",
+    "7 4,5,6 0,0,0",
+    "7 0,5,6 0,0,0",
+    "9 0,1,2 0,1,2",
+    "9 6,7,8 0,0,0",
+    "9 0,7,8 0,0,0",
+    "6 1,3 1,3",
+    "6 3,4 3,3",
+    "6 2,5 2,2",
+    "6 4,5 0,0",
 ];
+
+// The numbers between commas.
+fn numbers_of(alloc: Global, text: &str) -> Result<Vec<u64>, NoMemory> {
+    let mut numbers = Vec::new(alloc);
+    for word in text.split(',') {
+        if let Ok(number) = word.parse::<u64>() {
+            numbers.push(number)?;
+        }
+    }
+    Ok(numbers)
+}
 
 // A table of a size all of whose positions are taken but these, and how many are taken.
 fn table(
@@ -146,17 +171,22 @@ fn table(
 
 #[test]
 fn free_lists_are_those_of_an_independent_program(rt: HostRuntime) -> Result<(), Fail> {
-    for (size, free, entries) in FREE_LISTS {
-        let (occupied, count) = table(&rt, rt.alloc(), size, free)?;
-        assert!(rt; count <= occupied.size());
-        let list = free_list(rt.alloc(), &occupied, count)?;
-        assert_eq!(rt; list.len(), entries.len() as u64, "{count} of {size}");
-        for i in 0..list.len() {
-            assert_eq!(rt;
-                list.get(i),
-                entries.get(i as usize).copied(),
-                "{count} of {size}"
-            );
+    for row in FREE_LISTS {
+        let mut words = row.split_whitespace();
+        match (words.next(), words.next(), words.next()) {
+            (Some(size), Some(free), Some(entries)) => {
+                let size = size.parse::<u64>().unwrap_or(0);
+                let free = numbers_of(rt.alloc(), free)?;
+                let entries = numbers_of(rt.alloc(), entries)?;
+                let (occupied, count) = table(&rt, rt.alloc(), size, &free)?;
+                assert!(rt; count <= occupied.size());
+                let list = free_list(rt.alloc(), &occupied, count)?;
+                assert_eq!(rt; list.len(), entries.len() as u64, "{row}");
+                for i in 0..list.len() {
+                    assert_eq!(rt; list.get(i), entries.get(i as usize).copied(), "{row}");
+                }
+            }
+            _ => panic!(rt; "a row of three words"),
         }
     }
     Ok(())

@@ -9,15 +9,17 @@ ghost use Rattle.pth_top.specs.Texts.{cause_line, cause_lines, same_hash_line, s
 use bucket_map::table_size;
 use command_words::{WordFault, kinds};
 use hem_build::{Built, Cause, Part};
+use itoa::Buffer;
 use std::alloc::{AllocError, Global};
-use std::fmt::Write;
 
 // Appends a label and a number in plain decimal.
 pub(crate) fn push_number(text: &mut String, label: &str, number: u64) -> Result<(), AllocError>
     ensures { OnOk result
         (string_bytes text.new ≡ string_bytes text.old ++ (label.now ++ decimal number)) }
 {
-    write!(text, "{label}{number}")
+    let mut digits = Buffer::new();
+    text.push_str(label)?;
+    text.push_str(digits.format(number))
 }
 
 // Appends each pilot after a space.
@@ -25,7 +27,7 @@ fn push_pilots(text: &mut String, pilots: &[u64]) -> Result<(), AllocError>
     ensures { OnOk result (string_bytes text.new ≡ string_bytes text.old ++ spaced pilots.now) }
 {
     for pilot in pilots {
-        write!(text, " {pilot}")?;
+        push_number(text, " ", *pilot)?;
     }
     Ok(())
 }
@@ -68,7 +70,9 @@ fn push_place(text: &mut String, label: &str, place: u64) -> Result<(), AllocErr
         (string_bytes text.new ≡ string_bytes text.old ++ (label.now ++ decimal (place + 1))) }
 {
     let number = u128::from(place) + 1;
-    write!(text, "{label}{number}")
+    let mut digits = Buffer::new();
+    text.push_str(label)?;
+    text.push_str(digits.format(number))
 }
 
 // Appends the line on a seed at which a bucket has no pilot.

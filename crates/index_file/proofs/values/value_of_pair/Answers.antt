@@ -39,7 +39,7 @@ returns-in-Some-clause-value c =
     c.partition_of-q.ensures.value ∙ ap (partition_of c.args.pair.a c.args.pair.b) count in
     let start = c.index-in-Some.ensures ∙ start_is held q c.index-in-Some.result.now c.requires.beside within in
     (λ i. Some (start i + c.value_in.ensures i))
-    ∙ pair_value-some held c.args.pair.a c.args.pair.b q c.index.result.now c.in-Some.lists c.requires.beside place within
+    ∙ pair_value-some held c.args.pair.a c.args.pair.b q c.index.result.now c.in-Some.lists place within
     (sym c.index.ensures ∙ c.in-Some.is)
 
 pub returns-in-Some-clause-below : goal.returns-in-Some-clause-below

@@ -1,0 +1,127 @@
+// The parts that are timed.
+
+use crate::input::{KEY_LEN, keys, records, records_of_keys};
+use bucket_map::{Buckets, MAX_KEYS, Map, Record, Shape, bucket_count, ordered_buckets};
+use murmur64::hash_pair;
+use part_function::{How, Part, build_part};
+use std::alloc::Global;
+use std::io;
+use std::rt::Clock;
+use std::thread::Threads;
+use std::time::Instant;
+
+const SEED: u64 = 1;
+
+const PILOTS: u64 = 16_777_216;
+
+const SHAPE: Shape = Shape {
+    alpha: 98,
+    c: 700,
+    map: Map::Skewed,
+};
+
+#[derive(Drop)]
+pub struct Timed {
+    pub nanos: u128,
+    pub checksum: u64,
+}
+
+// Nothing but the records, for what they take of memory.
+pub fn time_records(alloc: Global, count: u32) -> io::Result<Timed> {
+    let records = records(alloc, count)?;
+    Ok(Timed {
+        nanos: 0,
+        checksum: records.len() as u64,
+    })
+}
+
+pub fn time_buckets(clock: &impl Clock, alloc: Global, count: u32) -> io::Result<Timed> {
+    let records = records(alloc, count)?;
+    let start = Instant::now(clock)?;
+    let buckets = buckets_of(alloc, &records)?;
+    let nanos = start.elapsed(clock)?.as_nanos();
+    let mut checksum = 0u64;
+    for rank in 0..buckets.len() {
+        checksum = sum_with(checksum, buckets.members(rank));
+    }
+    Ok(Timed { nanos, checksum })
+}
+
+fn buckets_of(alloc: Global, records: &[Record]) -> io::Result<Buckets> {
+    let n = records.len() as u64;
+    if n == 0 || n > MAX_KEYS {
+        return Err(io::Error::from(io::ErrorKind::InvalidInput));
+    }
+    match ordered_buckets(alloc, records, SHAPE.map, bucket_count(n, SHAPE.c)) {
+        Ok(buckets) => Ok(buckets),
+        Err(_) => Err(io::Error::from(io::ErrorKind::OutOfMemory)),
+    }
+}
+
+pub fn time_build<R: Clock + Threads + Sync>(
+    rt: &R,
+    alloc: Global,
+    count: u32,
+) -> io::Result<Timed> {
+    let records = records(alloc, count)?;
+    let start = Instant::now(rt)?;
+    let part = part_of(rt, alloc, &records)?;
+    let nanos = start.elapsed(rt)?.as_nanos();
+    Ok(Timed {
+        nanos,
+        checksum: sum_with(0, &part.pilots) ^ sum_of_entries(&part),
+    })
+}
+
+fn part_of<R: Threads + Sync>(rt: &R, alloc: Global, records: &[Record]) -> io::Result<Part> {
+    if records.len() as u64 > MAX_KEYS {
+        return Err(io::Error::from(io::ErrorKind::InvalidInput));
+    }
+    match build_part(rt, alloc, records, SHAPE, SEED, PILOTS, How::Alone) {
+        Ok(Ok(part)) => Ok(part),
+        Ok(Err(_)) => Err(io::Error::from(io::ErrorKind::InvalidInput)),
+        Err(_) => Err(io::Error::from(io::ErrorKind::OutOfMemory)),
+    }
+}
+
+// Each key of the list is hashed and its value taken; no key has a value near that of the next one.
+pub fn time_lookups<R: Clock + Threads + Sync>(
+    rt: &R,
+    alloc: Global,
+    count: u32,
+) -> io::Result<Timed> {
+    let text = keys(alloc, count)?;
+    let part = part_of(rt, alloc, &records_of_keys(alloc, &text, SEED)?)?;
+    let start = Instant::now(rt)?;
+    let checksum = sum_of_values(&part, &text);
+    let nanos = start.elapsed(rt)?.as_nanos();
+    Ok(Timed { nanos, checksum })
+}
+
+fn sum_of_values(part: &Part, text: &[u8]) -> u64 {
+    let mut sum = 0u64;
+    for key in text.chunks_exact(KEY_LEN) {
+        if let Some(value) = part.value(SHAPE.map, hash_pair(key, SEED), SEED) {
+            sum = sum.wrapping_mul(31).wrapping_add(value);
+        }
+    }
+    sum
+}
+
+fn sum_of_entries(part: &Part) -> u64 {
+    let mut sum = 0u64;
+    for i in 0..part.free.len() {
+        if let Some(entry) = part.free.get(i) {
+            sum = sum.wrapping_mul(31).wrapping_add(entry);
+        }
+    }
+    sum
+}
+
+fn sum_with(sum: u64, numbers: &[u64]) -> u64 {
+    let mut sum = sum;
+    for number in numbers {
+        sum = sum.wrapping_mul(31).wrapping_add(*number);
+    }
+    sum
+}
