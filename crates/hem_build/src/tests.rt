@@ -6,8 +6,10 @@ use pth_outside::KeyList;
 use std::alloc::Global;
 use std::fmt::Write;
 use std::process::Abort;
+use std::sync::Wait;
 use std::test::Fail;
 use std::thread::Threads;
+use turn_search::FreeGate;
 
 const SKEWED: Shape = Shape {
     alpha: 98,
@@ -68,7 +70,7 @@ fn numbered<R: Abort + AllocGlobal>(rt: &R, count: u64) -> Result<KeyList, Fail>
 }
 
 // Builds the index of some keys.
-fn built<R: Abort + AllocGlobal + Threads + Sync>(
+fn built<R: Abort + AllocGlobal + Threads + Wait + Sync>(
     rt: &R,
     keys: &KeyList,
     seeds: &[u64],
@@ -94,7 +96,7 @@ fn built<R: Abort + AllocGlobal + Threads + Sync>(
         limit,
         how,
     };
-    Ok(build_keys(rt, rt.alloc(), keys, &settings))
+    Ok(build_keys(rt, rt.alloc(), keys, &settings, &FreeGate))
 }
 
 // The bucket that has no pilot, by partition, for each seed that is stuck; the first stuck partition decides.
