@@ -1,6 +1,6 @@
 #!/usr/bin/env bash
 # Builds indexes of random lists by up to 64 workers, by turns and in rounds, on one processor and on four, and compares status,
-# text and index of each with those of one worker. A build that takes longer than a minute counts as hung.
+# text and index of each with those of one worker. A build that takes longer than two minutes counts as hung.
 #
 # usage: turns.sh PROGRAM [SECONDS [SEED]]     for so many seconds (20 by default), with random numbers from that seed on
 set -u
@@ -46,7 +46,7 @@ build() { # NAME PROCESSORS WORD..
   local name=$1 processors=$2
   shift 2
   rm -f "$name" "$name.text"
-  timeout -k 5 60 taskset -c "$processors" "$program" build keys "$name" "$@" >"$name.text" 2>"$name.errors"
+  timeout -k 5 120 taskset -c "$processors" "$program" build keys "$name" "$@" >"$name.text" 2>"$name.errors"
   status=$?
   builds=$((builds + 1))
   case $status in 124 | 137) hung=$((hung + 1)) ;; esac

@@ -24,7 +24,8 @@ use std::thread::Threads;
 use turn_search::Gate;
 
 /// Builds the index of some keys at the first seed that succeeds, with as many threads as the settings have workers. The
-/// answer doesn't depend on their number, nor on how partitions and records are shared out.
+/// answer doesn't depend on their number, nor on how partitions and records are shared out. Several workers of a partition
+/// wait for each other where they search by turns, and tell the gate.
 pub fn build_keys<R: Threads + Wait + Sync, G: Gate>(
     rt: &R,
     alloc: Global,

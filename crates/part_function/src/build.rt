@@ -23,7 +23,8 @@ use std::sync::Wait;
 use std::thread::Threads;
 use turn_search::{Gate, search_turns};
 
-/// Builds the partition of some records, or answers the bucket that has no pilot: the same however it is searched.
+/// Builds the partition of some records, or answers the bucket that has no pilot: the same however it is searched. Several
+/// workers by turns wait for each other, and tell the gate.
 pub fn build_part<R: Threads + Wait + Sync, G: Gate>(
     rt: &R,
     alloc: Global,

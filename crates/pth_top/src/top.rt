@@ -24,7 +24,7 @@ use std::thread::Threads;
 use turn_search::Gate;
 
 /// Does what the words after the program's name ask for, writes the file that it gives, hands the text over to the sink in
-/// one piece, and answers the status.
+/// one piece, and answers the status. Several workers by turns wait for each other, and tell the gate.
 pub fn run<R: Threads + Wait + Sync, F: Files, O: Sink, G: Gate>(
     rt: &R,
     alloc: Global,
