@@ -57,6 +57,16 @@ const SEARCHES: [How; 7] = [
     How::Turns(7),
 ];
 
+// The searches without turns of several workers. A turn waits until its thread is run, which takes long for many buckets where
+// other programs run.
+const WITHOUT_TURNS: [How; 5] = [
+    How::Alone,
+    How::Rounds(1),
+    How::Rounds(2),
+    How::Rounds(7),
+    How::Turns(1),
+];
+
 // The keys k0, k1 and so on, this many.
 fn numbered<R: Abort + AllocGlobal>(rt: &R, count: u64) -> Result<KeyList, Fail> {
     let mut keys = KeyList::new(rt.alloc());
@@ -136,27 +146,41 @@ fn stuck_seeds_have_their_first_stuck_partition(rt: HostRuntime) -> Result<(), F
 // The values of k0 to k7.
 #[test]
 fn keys_have_their_values(rt: HostRuntime) -> Result<(), Fail> {
-    for (count, parts, shape, values) in [
-        (5, 1, SKEWED, [1, 4, 2, 3, 0, 0, 3, 0]),
-        (21, 4, SKEWED, [0, 12, 10, 15, 7, 16, 5, 3]),
-        (400, 3, SKEWED, [89, 150, 251, 334, 124, 170, 75, 20]),
-        (400, 3, UNIFORM, [97, 150, 198, 315, 124, 170, 45, 79]),
+    for (count, parts, shape, searches, values) in [
+        (5, 1, SKEWED, SEARCHES.as_slice(), [1, 4, 2, 3, 0, 0, 3, 0]),
+        (21, 4, SKEWED, &SEARCHES, [0, 12, 10, 15, 7, 16, 5, 3]),
+        (
+            400,
+            3,
+            SKEWED,
+            &SEARCHES,
+            [89, 150, 251, 334, 124, 170, 75, 20],
+        ),
+        (
+            400,
+            3,
+            UNIFORM,
+            &SEARCHES,
+            [97, 150, 198, 315, 124, 170, 45, 79],
+        ),
         (
             20_000,
             1,
             SKEWED,
+            &WITHOUT_TURNS,
             [7333, 19_915, 1505, 12_866, 16_462, 18_707, 12_218, 9518],
         ),
         (
             20_000,
             16,
             SKEWED,
+            &SEARCHES,
             [4603, 9988, 9329, 14_770, 2404, 12_419, 3812, 3865],
         ),
     ] {
         let keys = numbered(&rt, count)?;
         let eight = numbered(&rt, 8)?;
-        for how in SEARCHES {
+        for &how in searches {
             match built(&rt, &keys, &[1], shape, parts, 16_777_216, how)? {
                 Ok(index) => {
                     for (place, value) in values.iter().enumerate() {
