@@ -47,7 +47,7 @@ const MARK_OF_A_B_C: KeyMark = KeyMark {
 };
 
 // A build by one thread, by rounds and by turns, each with few and with many workers.
-const SEARCHES: [How; 7] = [
+const SEARCHES: [How; 8] = [
     How::Alone,
     How::Rounds(1),
     How::Rounds(2),
@@ -55,6 +55,7 @@ const SEARCHES: [How; 7] = [
     How::Turns(1),
     How::Turns(2),
     How::Turns(7),
+    How::Turns(64),
 ];
 
 // The searches without turns of several workers. A turn waits until its thread is run, which takes long for many buckets where
@@ -112,23 +113,45 @@ fn built<R: Abort + AllocGlobal + Threads + Wait + Sync>(
 // The bucket that has no pilot, by partition, for each seed that is stuck; the first stuck partition decides.
 #[test]
 fn stuck_seeds_have_their_first_stuck_partition(rt: HostRuntime) -> Result<(), Fail> {
-    for (count, parts, limit, seeds, stuck) in [
+    for (count, parts, limit, searches, seeds, stuck) in [
         (
             90,
             8,
             7,
+            SEARCHES.as_slice(),
             [103, 105].as_slice(),
             [(6, 25), (2, 6)].as_slice(),
         ),
-        (90, 8, 7, &[110, 117], &[(3, 8), (3, 17)]),
-        (100, 8, 1, &[1], &[(0, 1)]),
-        (100, 8, 6, &[3, 40, 41], &[(0, 27), (1, 4), (0, 5)]),
-        (1500, 8, 2, &[1, 2], &[(0, 35), (0, 161)]),
-        (1500, 1, 3, &[4, 9, 4], &[(0, 459), (0, 257), (0, 459)]),
-        (1500, 1, 1, &[1, 2, 3, 4, 5, 6, 7, 8], &ONE_PILOT),
+        (90, 8, 7, &SEARCHES, &[110, 117], &[(3, 8), (3, 17)]),
+        (100, 8, 1, &SEARCHES, &[1], &[(0, 1)]),
+        (
+            100,
+            8,
+            6,
+            &SEARCHES,
+            &[3, 40, 41],
+            &[(0, 27), (1, 4), (0, 5)],
+        ),
+        (1500, 8, 2, &SEARCHES, &[1, 2], &[(0, 35), (0, 161)]),
+        (
+            1500,
+            1,
+            3,
+            &WITHOUT_TURNS,
+            &[4, 9, 4],
+            &[(0, 459), (0, 257), (0, 459)],
+        ),
+        (
+            1500,
+            1,
+            1,
+            &WITHOUT_TURNS,
+            &[1, 2, 3, 4, 5, 6, 7, 8],
+            &ONE_PILOT,
+        ),
     ] {
         let keys = numbered(&rt, count)?;
-        for how in SEARCHES {
+        for &how in searches {
             match built(&rt, &keys, seeds, SKEWED, parts, limit, how)? {
                 Err(Refusal::SeedsExhausted { causes }) => {
                     assert_eq!(rt; causes.list.len(), stuck.len());
