@@ -17,8 +17,8 @@ import threading
 import time
 
 KEYS = b"".join(b"key number %d\n" % i for i in range(40000))
-# With so many buckets the text is longer than what a pipe holds.
-BUCKETS = "c=1500"
+# With so many buckets the text is longer than what a pipe holds. One worker, so that no turn waits for a thread to be run.
+SETTINGS = ("c=1500", "workers=1")
 PIPE = 65536
 WAIT = 20
 
@@ -69,14 +69,14 @@ def key_files(checks, text):
     reader, writer = os.pipe()
     feeder = threading.Thread(target=feed, args=(writer, KEYS))
     feeder.start()
-    run = checks.run("pilots", f"/dev/fd/{reader}", BUCKETS, pass_fds=[reader])
+    run = checks.run("pilots", f"/dev/fd/{reader}", *SETTINGS, pass_fds=[reader])
     os.close(reader)
     feeder.join()
     checks.same("a pipe", (run.returncode, run.stdout), (0, text))
     os.symlink("K", "link")
-    run = checks.run("pilots", "link", BUCKETS)
+    run = checks.run("pilots", "link", *SETTINGS)
     checks.same("a link", (run.returncode, run.stdout), (0, text))
-    run = checks.run("pilots", ".", BUCKETS)
+    run = checks.run("pilots", ".", *SETTINGS)
     checks.same("a folder", (run.returncode, run.stdout), (2, b"file fault\n"))
 
 
@@ -85,10 +85,10 @@ def outputs(checks, text):
     for output in ["/dev/full", os.devnull]:
         with open(output, "rb" if output == os.devnull else "wb") as out:
             what = "a full output" if output == "/dev/full" else "an output that takes nothing"
-            checks.same(what, checks.run("pilots", "K", BUCKETS, stdout=out).returncode, 8)
+            checks.same(what, checks.run("pilots", "K", *SETTINGS, stdout=out).returncode, 8)
             checks.same(f"{what}, words refused", checks.run("pilot", stdout=out).returncode, 1)
     reader, writer = os.pipe()
-    run = checks.start("pilots", "K", BUCKETS, stdout=writer)
+    run = checks.start("pilots", "K", *SETTINGS, stdout=writer)
     os.close(writer)
     until(lambda: held(reader) >= PIPE or run.poll() is not None)
     # The write that waits for room is cut off where it is.
@@ -109,7 +109,7 @@ def standard_streams(checks, text):
                 os.close(descriptor)
 
         keys = os.open("fifo", os.O_RDWR)
-        run = checks.start("pilots", "fifo", BUCKETS, preexec_fn=close)
+        run = checks.start("pilots", "fifo", *SETTINGS, preexec_fn=close)
         os.write(keys, b"one\n")
         until(lambda: held(keys) == 0)
         folder = pathlib.Path(f"/proc/{run.pid}/fd")
@@ -118,7 +118,7 @@ def standard_streams(checks, text):
         os.close(keys)
         run.stdout.close()
         run.wait(WAIT)
-        run = checks.run("pilots", "K", BUCKETS, preexec_fn=close)
+        run = checks.run("pilots", "K", *SETTINGS, preexec_fn=close)
         wanted = (8, b"") if 1 in closed else (0, text)
         checks.same(f"{closed} closed", (run.returncode, run.stdout), wanted)
         checks.same(f"the key file where {closed} are closed", pathlib.Path("K").read_bytes() == KEYS, True)
@@ -129,7 +129,7 @@ def main():
     with tempfile.TemporaryDirectory() as folder:
         os.chdir(folder)
         pathlib.Path("K").write_bytes(KEYS)
-        run = checks.run("pilots", "K", BUCKETS)
+        run = checks.run("pilots", "K", *SETTINGS)
         checks.same("a file", (run.returncode, len(run.stdout) > PIPE), (0, True))
         key_files(checks, run.stdout)
         outputs(checks, run.stdout)

@@ -4,7 +4,9 @@ use hem_build::{Built, How, Settings, build_keys};
 use pth_outside::KeyList;
 use std::alloc::Global;
 use std::io;
+use std::sync::Wait;
 use std::thread::Threads;
+use turn_search::FreeGate;
 
 // SplitMix64 (Steele, Lea and Flood, OOPSLA 2014).
 #[derive(Drop)]
@@ -53,7 +55,7 @@ fn keys_of(alloc: Global, count: u32) -> io::Result<KeyList> {
 }
 
 // The index of so many keys in so many partitions, at seed 1 or at seed 2.
-pub(crate) fn built_of<R: AllocGlobal + Threads + Sync>(
+pub(crate) fn built_of<R: AllocGlobal + Threads + Wait + Sync>(
     rt: &R,
     count: u32,
     parts: u32,
@@ -76,7 +78,7 @@ pub(crate) fn built_of<R: AllocGlobal + Threads + Sync>(
         limit: 16_777_216,
         how: How::Alone,
     };
-    match build_keys(rt, rt.alloc(), &keys, &settings) {
+    match build_keys(rt, rt.alloc(), &keys, &settings, &FreeGate) {
         Ok(built) => Ok(built),
         Err(_) => Err(out_of_memory()),
     }

@@ -6,6 +6,7 @@ mod input;
 use crate::input::{Numbers, built_of, key_of, out_of_memory, place_below};
 use index_file::{Code, Encoding, Index, read_index, write_index};
 use std::rt::{Clock, Files};
+use std::sync::Wait;
 use std::thread::Threads;
 use std::time::Instant;
 use std::{env, fs, io};
@@ -85,7 +86,7 @@ fn time(rt: &HostRuntime, part: &str, file: &str, count: u32) -> io::Result<Time
 }
 
 // How long it takes to write the index of some keys in memory; the file gets what was written.
-fn time_write<R: AllocGlobal + Clock + Files + Threads + Sync>(
+fn time_write<R: AllocGlobal + Clock + Files + Threads + Wait + Sync>(
     rt: &R,
     file: &str,
     asked: &Asked,

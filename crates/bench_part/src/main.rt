@@ -7,6 +7,7 @@ mod parts;
 use crate::parts::{Timed, time_buckets, time_build, time_lookups, time_records};
 use std::alloc::Global;
 use std::rt::Clock;
+use std::sync::Wait;
 use std::thread::Threads;
 use std::{env, io};
 
@@ -25,7 +26,7 @@ fn main(rt: HostRuntime) -> io::Result<()> {
     }
 }
 
-fn time<R: Clock + Threads + Sync>(
+fn time<R: Clock + Threads + Wait + Sync>(
     rt: &R,
     alloc: Global,
     part: &str,

@@ -7,8 +7,10 @@ use part_function::{How, Part, build_part};
 use std::alloc::Global;
 use std::io;
 use std::rt::Clock;
+use std::sync::Wait;
 use std::thread::Threads;
 use std::time::Instant;
+use turn_search::FreeGate;
 
 const SEED: u64 = 1;
 
@@ -58,7 +60,7 @@ fn buckets_of(alloc: Global, records: &[Record]) -> io::Result<Buckets> {
     }
 }
 
-pub fn time_build<R: Clock + Threads + Sync>(
+pub fn time_build<R: Clock + Threads + Wait + Sync>(
     rt: &R,
     alloc: Global,
     count: u32,
@@ -73,11 +75,24 @@ pub fn time_build<R: Clock + Threads + Sync>(
     })
 }
 
-fn part_of<R: Threads + Sync>(rt: &R, alloc: Global, records: &[Record]) -> io::Result<Part> {
+fn part_of<R: Threads + Wait + Sync>(
+    rt: &R,
+    alloc: Global,
+    records: &[Record],
+) -> io::Result<Part> {
     if records.len() as u64 > MAX_KEYS {
         return Err(io::Error::from(io::ErrorKind::InvalidInput));
     }
-    match build_part(rt, alloc, records, SHAPE, SEED, PILOTS, How::Alone) {
+    match build_part(
+        rt,
+        alloc,
+        records,
+        SHAPE,
+        SEED,
+        PILOTS,
+        How::Alone,
+        &FreeGate,
+    ) {
         Ok(Ok(part)) => Ok(part),
         Ok(Err(_)) => Err(io::Error::from(io::ErrorKind::InvalidInput)),
         Err(_) => Err(io::Error::from(io::ErrorKind::OutOfMemory)),
@@ -85,7 +100,7 @@ fn part_of<R: Threads + Sync>(rt: &R, alloc: Global, records: &[Record]) -> io::
 }
 
 // Each key of the list is hashed and its value taken; no key has a value near that of the next one.
-pub fn time_lookups<R: Clock + Threads + Sync>(
+pub fn time_lookups<R: Clock + Threads + Wait + Sync>(
     rt: &R,
     alloc: Global,
     count: u32,

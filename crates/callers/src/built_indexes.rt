@@ -13,7 +13,9 @@ use hem_build::{Built, Refusal, Settings, build_keys};
 use index_file::{Encoding, Index, IndexFault, read_index, write_index};
 use pth_outside::KeyList;
 use std::alloc::Global;
+use std::sync::Wait;
 use std::thread::Threads;
+use turn_search::Gate;
 
 /// An index that was built, written in an encoding behind what stands there, and read again: the same.
 pub fn index_read_again(
@@ -48,13 +50,14 @@ pub fn built_number_read_again(
 }
 
 /// The index of some keys, built, written and read again, or `None` where the build refuses them.
-pub fn index_of_keys<R: Threads + Sync>(
+pub fn index_of_keys<R: Threads + Wait + Sync, G: Gate>(
     rt: &R,
     alloc: Global,
     keys: &KeyList,
     settings: &Settings,
     enc: Encoding,
     bytes: &mut Vec<u8>,
+    gate: &G,
 ) -> Result<Option<Index>, IndexFault>
     requires some { 1 ≤ length keys.now }
     requires few { length keys.now ≤ MAX_KEYS }
@@ -66,7 +69,7 @@ pub fn index_of_keys<R: Threads + Sync>(
         IfOk result (λ found. option_map (λ index. index.index) found ≡ Some x) }
     ensures err { OnErr result (result ≡ Err faults.NoMemory) }
 {
-    match build_keys(rt, alloc, keys, settings) {
+    match build_keys(rt, alloc, keys, settings, gate) {
         Ok(built) => {
             let index = index_read_again(alloc, &built, enc, bytes)?;
             Ok(Some(index))

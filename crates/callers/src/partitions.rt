@@ -8,11 +8,13 @@ use bucket_map::{Map, NoMemory, Record, Shape};
 use murmur64::HashPair;
 use part_function::{How, Part, build_part};
 use std::alloc::Global;
+use std::sync::Wait;
 use std::thread::Threads;
+use turn_search::FreeGate;
 
 /// The numbers of some records in the partition that is built of them, in the order of the records,
 /// or `None` where some bucket has no pilot.
-pub fn numbers_of_records<R: Threads + Sync>(
+pub fn numbers_of_records<R: Threads + Wait + Sync>(
     rt: &R,
     alloc: Global,
     records: &[Record],
@@ -29,7 +31,16 @@ pub fn numbers_of_records<R: Threads + Sync>(
     ensures below { IfOk result
         (λ found. IfSome found (λ v. All (λ number. number < length records.now) v.items)) }
 {
-    match build_part(rt, alloc, records, shape, seed, limit, How::Alone)? {
+    match build_part(
+        rt,
+        alloc,
+        records,
+        shape,
+        seed,
+        limit,
+        How::Alone,
+        &FreeGate,
+    )? {
         Ok(part) => {
             let numbers = numbers_in(alloc, &part, records, shape.map, seed)?;
             Ok(Some(numbers))

@@ -18,7 +18,9 @@ use part_function::Part;
 use pth_outside::KeyList;
 use settings::Settings;
 use std::alloc::Global;
+use std::sync::Wait;
 use std::thread::Threads;
+use turn_search::Gate;
 
 // How an attempt at a seed ends.
 #[derive(Drop)]
@@ -38,19 +40,20 @@ struct MarkedParts {
 }
 
 // Tries a seed. Where all partitions end well no two keys have the same pair, so that a clash is sought only where one is stuck.
-pub(crate) fn try_seed<R: Threads + Sync>(
+pub(crate) fn try_seed<R: Threads + Wait + Sync, G: Gate>(
     rt: &R,
     alloc: Global,
     keys: &KeyList,
     seed: u64,
     settings: &Settings,
+    gate: &G,
 ) -> Result<Attempt, NoMemory>
     requires { length keys.now ≤ MAX_KEYS }
     ensures attempt { IfOk result (λ attempt. attempt_data attempt
         ≡ attempt_of (rules_of (settings_data settings.now)) keys.now seed) }
     ensures mark { IfOk result (HasMark keys.now seed) }
 {
-    match parts_of_keys(rt, alloc, keys, seed, settings)? {
+    match parts_of_keys(rt, alloc, keys, seed, settings, gate)? {
         Ok(MarkedParts { parts, mark }) => Ok(Attempt::Complete { parts, mark }),
         Err(stuck) => match first_clash(rt, alloc, keys, seed, worker_count(settings.how))? {
             Some((first, second)) => Ok(Attempt::Clashed { first, second }),
@@ -63,12 +66,13 @@ pub(crate) fn try_seed<R: Threads + Sync>(
 }
 
 // Builds the partitions of a list of keys, or answers the first that is stuck. Its records are let go of before it returns.
-fn parts_of_keys<R: Threads + Sync>(
+fn parts_of_keys<R: Threads + Wait + Sync, G: Gate>(
     rt: &R,
     alloc: Global,
     keys: &KeyList,
     seed: u64,
     settings: &Settings,
+    gate: &G,
 ) -> Result<Result<MarkedParts, StuckPart>, NoMemory>
     requires { length keys.now ≤ MAX_KEYS }
     ensures parts { IfOk result (λ answer. IfOk answer (λ built.
@@ -81,7 +85,7 @@ fn parts_of_keys<R: Threads + Sync>(
 {
     let all = cut_keys(rt, alloc, keys, seed, settings.parts, settings.how)?;
     let mark = all.mark;
-    match build_partitions(rt, alloc, &all.pieces, keys.len(), seed, settings)? {
+    match build_partitions(rt, alloc, &all.pieces, keys.len(), seed, settings, gate)? {
         Ok(parts) => Ok(Ok(MarkedParts { parts, mark })),
         Err(stuck) => Ok(Err(stuck)),
     }

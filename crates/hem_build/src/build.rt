@@ -19,15 +19,19 @@ use build_outcome::Cause;
 use pth_outside::KeyList;
 use settings::Settings;
 use std::alloc::Global;
+use std::sync::Wait;
 use std::thread::Threads;
+use turn_search::Gate;
 
 /// Builds the index of some keys at the first seed that succeeds, with as many threads as the settings have workers. The
-/// answer doesn't depend on their number, nor on how partitions and records are shared out.
-pub fn build_keys<R: Threads + Sync>(
+/// answer doesn't depend on their number, nor on how partitions and records are shared out. Several workers of a partition
+/// wait for each other where they search by turns, and tell the gate.
+pub fn build_keys<R: Threads + Wait + Sync, G: Gate>(
     rt: &R,
     alloc: Global,
     keys: &KeyList,
     settings: &Settings,
+    gate: &G,
 ) -> Result<Built, Refusal>
     requires some { 1 ≤ length keys.now }
     requires few { length keys.now ≤ MAX_KEYS }
@@ -50,18 +54,19 @@ pub fn build_keys<R: Threads + Sync>(
     ensures repeat { (i j : ℕ) → IsErrOf result (Refusal.RepeatedKey i j) →
         IsRepeat keys.now i j }
 {
-    match try_seeds(rt, alloc, keys, settings) {
+    match try_seeds(rt, alloc, keys, settings, gate) {
         Ok(answer) => answer,
         Err(NoMemory) => Err(Refusal::NoMemory),
     }
 }
 
 // Tries the seeds in their order, until one succeeds or a repeated key is found.
-fn try_seeds<R: Threads + Sync>(
+fn try_seeds<R: Threads + Wait + Sync, G: Gate>(
     rt: &R,
     alloc: Global,
     keys: &KeyList,
     settings: &Settings,
+    gate: &G,
 ) -> Result<Result<Built, Refusal>, NoMemory>
     requires some { 1 ≤ length keys.now }
     requires few { length keys.now ≤ MAX_KEYS }
@@ -70,7 +75,7 @@ fn try_seeds<R: Threads + Sync>(
 {
     let mut causes = Vec::new(alloc);
     for &seed in &settings.seeds {
-        match try_seed(rt, alloc, keys, seed, settings)? {
+        match try_seed(rt, alloc, keys, seed, settings, gate)? {
             Attempt::Complete { parts, mark } => {
                 let built = Built::new(alloc, seed, keys.len(), settings.shape, parts, mark)?;
                 return Ok(Ok(built));

@@ -19,8 +19,10 @@ use part_function::{Part, build_part_with};
 use pilot_search::{Scratch, Stuck};
 use settings::{How, Settings};
 use std::alloc::{AllocError, Global};
+use std::sync::Wait;
 use std::thread;
 use std::thread::Threads;
+use turn_search::Gate;
 
 // The first partition that is stuck, and its bucket that has no pilot.
 #[derive(Clone, Copy, Debug, PartialEq, Eq)]
@@ -30,13 +32,14 @@ pub(crate) struct StuckPart {
 }
 
 // Builds all partitions of n records, or answers the first that is stuck.
-pub(crate) fn build_partitions<R: Threads + Sync>(
+pub(crate) fn build_partitions<R: Threads + Wait + Sync, G: Gate>(
     rt: &R,
     alloc: Global,
     partitions: &Pieces,
     n: u64,
     seed: u64,
     settings: &Settings,
+    gate: &G,
 ) -> Result<Result<Vec<Part>, StuckPart>, NoMemory>
     requires some_partition { 1 ≤ length partitions.now }
     requires few_partitions { length partitions.now ≤ MAX_PARTITIONS }
@@ -60,7 +63,11 @@ pub(crate) fn build_partitions<R: Threads + Sync>(
                 ≡ parts_between (rules_of (settings_data settings.entry.now)) seed
                 partitions.entry.now (slice_index starts.entry.now group)
                 (slice_index starts.entry.now (group + 1))) }
-        { build_group(rt, alloc, partitions, starts, group, seed, settings, how) },
+        {
+            build_group(
+                rt, alloc, partitions, starts, group, seed, settings, how, gate,
+            )
+        },
     )?;
     join_groups(alloc, partitions, starts, seed, settings, answers)
 }
@@ -100,7 +107,7 @@ fn group_end(counts: &[u64], start: u64, wanted: u64) -> u64
 }
 
 // Builds the partitions of a group one after another, up to the first that is stuck.
-fn build_group<R: Threads + Sync>(
+fn build_group<R: Threads + Wait + Sync, G: Gate>(
     rt: &R,
     alloc: Global,
     partitions: &Pieces,
@@ -109,6 +116,7 @@ fn build_group<R: Threads + Sync>(
     seed: u64,
     settings: &Settings,
     how: How,
+    gate: &G,
 ) -> Result<Result<Vec<Part>, StuckPart>, NoMemory>
     requires { IsGroupOf partitions.now starts.now group settings.now.how how }
     ensures { IfOk result (λ answer. group_data answer
@@ -129,6 +137,7 @@ fn build_group<R: Threads + Sync>(
             how,
             &mut scratch,
             &mut records,
+            gate,
         )? {
             Ok(part) => built.push(part)?,
             Err(stuck) => {
@@ -143,7 +152,7 @@ fn build_group<R: Threads + Sync>(
 }
 
 // Builds a partition, whose records are gathered in memory that is lent where they stand in more than one piece.
-fn build_one<R: Threads + Sync>(
+fn build_one<R: Threads + Wait + Sync, G: Gate>(
     rt: &R,
     alloc: Global,
     partitions: &Pieces,
@@ -153,6 +162,7 @@ fn build_one<R: Threads + Sync>(
     how: How,
     scratch: &mut Scratch,
     room: &mut Vec<Record>,
+    gate: &G,
 ) -> Result<Result<Part, Stuck>, NoMemory>
     requires within { number < length partitions.now }
     requires few { length (slice_index_or partitions.now number []) ≤ MAX_KEYS }
@@ -171,16 +181,17 @@ fn build_one<R: Threads + Sync>(
             settings,
             how,
             scratch,
+            gate,
         ),
         None => {
             partitions.gather(number, room)?;
-            build_records(rt, alloc, room, seed, settings, how, scratch)
+            build_records(rt, alloc, room, seed, settings, how, scratch, gate)
         }
     }
 }
 
 // Builds the partition of some records.
-fn build_records<R: Threads + Sync>(
+fn build_records<R: Threads + Wait + Sync, G: Gate>(
     rt: &R,
     alloc: Global,
     records: &[Record],
@@ -188,6 +199,7 @@ fn build_records<R: Threads + Sync>(
     settings: &Settings,
     how: How,
     scratch: &mut Scratch,
+    gate: &G,
 ) -> Result<Result<Part, Stuck>, NoMemory>
     requires few { length records.now ≤ MAX_KEYS }
     requires some_worker { 1 ≤ workers_of how }
@@ -204,6 +216,7 @@ fn build_records<R: Threads + Sync>(
         settings.limit,
         how,
         scratch,
+        gate,
     )
 }
 

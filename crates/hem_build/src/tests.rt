@@ -6,8 +6,10 @@ use pth_outside::KeyList;
 use std::alloc::Global;
 use std::fmt::Write;
 use std::process::Abort;
+use std::sync::Wait;
 use std::test::Fail;
 use std::thread::Threads;
+use turn_search::FreeGate;
 
 const SKEWED: Shape = Shape {
     alpha: 98,
@@ -45,7 +47,7 @@ const MARK_OF_A_B_C: KeyMark = KeyMark {
 };
 
 // A build by one thread, by rounds and by turns, each with few and with many workers.
-const SEARCHES: [How; 7] = [
+const SEARCHES: [How; 8] = [
     How::Alone,
     How::Rounds(1),
     How::Rounds(2),
@@ -53,6 +55,17 @@ const SEARCHES: [How; 7] = [
     How::Turns(1),
     How::Turns(2),
     How::Turns(7),
+    How::Turns(64),
+];
+
+// The searches without turns of several workers. A turn waits until its thread is run, which takes long for many buckets where
+// other programs run.
+const WITHOUT_TURNS: [How; 5] = [
+    How::Alone,
+    How::Rounds(1),
+    How::Rounds(2),
+    How::Rounds(7),
+    How::Turns(1),
 ];
 
 // The keys k0, k1 and so on, this many.
@@ -68,7 +81,7 @@ fn numbered<R: Abort + AllocGlobal>(rt: &R, count: u64) -> Result<KeyList, Fail>
 }
 
 // Builds the index of some keys.
-fn built<R: Abort + AllocGlobal + Threads + Sync>(
+fn built<R: Abort + AllocGlobal + Threads + Wait + Sync>(
     rt: &R,
     keys: &KeyList,
     seeds: &[u64],
@@ -94,29 +107,51 @@ fn built<R: Abort + AllocGlobal + Threads + Sync>(
         limit,
         how,
     };
-    Ok(build_keys(rt, rt.alloc(), keys, &settings))
+    Ok(build_keys(rt, rt.alloc(), keys, &settings, &FreeGate))
 }
 
 // The bucket that has no pilot, by partition, for each seed that is stuck; the first stuck partition decides.
 #[test]
 fn stuck_seeds_have_their_first_stuck_partition(rt: HostRuntime) -> Result<(), Fail> {
-    for (count, parts, limit, seeds, stuck) in [
+    for (count, parts, limit, searches, seeds, stuck) in [
         (
             90,
             8,
             7,
+            SEARCHES.as_slice(),
             [103, 105].as_slice(),
             [(6, 25), (2, 6)].as_slice(),
         ),
-        (90, 8, 7, &[110, 117], &[(3, 8), (3, 17)]),
-        (100, 8, 1, &[1], &[(0, 1)]),
-        (100, 8, 6, &[3, 40, 41], &[(0, 27), (1, 4), (0, 5)]),
-        (1500, 8, 2, &[1, 2], &[(0, 35), (0, 161)]),
-        (1500, 1, 3, &[4, 9, 4], &[(0, 459), (0, 257), (0, 459)]),
-        (1500, 1, 1, &[1, 2, 3, 4, 5, 6, 7, 8], &ONE_PILOT),
+        (90, 8, 7, &SEARCHES, &[110, 117], &[(3, 8), (3, 17)]),
+        (100, 8, 1, &SEARCHES, &[1], &[(0, 1)]),
+        (
+            100,
+            8,
+            6,
+            &SEARCHES,
+            &[3, 40, 41],
+            &[(0, 27), (1, 4), (0, 5)],
+        ),
+        (1500, 8, 2, &SEARCHES, &[1, 2], &[(0, 35), (0, 161)]),
+        (
+            1500,
+            1,
+            3,
+            &WITHOUT_TURNS,
+            &[4, 9, 4],
+            &[(0, 459), (0, 257), (0, 459)],
+        ),
+        (
+            1500,
+            1,
+            1,
+            &WITHOUT_TURNS,
+            &[1, 2, 3, 4, 5, 6, 7, 8],
+            &ONE_PILOT,
+        ),
     ] {
         let keys = numbered(&rt, count)?;
-        for how in SEARCHES {
+        for &how in searches {
             match built(&rt, &keys, seeds, SKEWED, parts, limit, how)? {
                 Err(Refusal::SeedsExhausted { causes }) => {
                     assert_eq!(rt; causes.list.len(), stuck.len());
@@ -134,27 +169,41 @@ fn stuck_seeds_have_their_first_stuck_partition(rt: HostRuntime) -> Result<(), F
 // The values of k0 to k7.
 #[test]
 fn keys_have_their_values(rt: HostRuntime) -> Result<(), Fail> {
-    for (count, parts, shape, values) in [
-        (5, 1, SKEWED, [1, 4, 2, 3, 0, 0, 3, 0]),
-        (21, 4, SKEWED, [0, 12, 10, 15, 7, 16, 5, 3]),
-        (400, 3, SKEWED, [89, 150, 251, 334, 124, 170, 75, 20]),
-        (400, 3, UNIFORM, [97, 150, 198, 315, 124, 170, 45, 79]),
+    for (count, parts, shape, searches, values) in [
+        (5, 1, SKEWED, SEARCHES.as_slice(), [1, 4, 2, 3, 0, 0, 3, 0]),
+        (21, 4, SKEWED, &SEARCHES, [0, 12, 10, 15, 7, 16, 5, 3]),
+        (
+            400,
+            3,
+            SKEWED,
+            &SEARCHES,
+            [89, 150, 251, 334, 124, 170, 75, 20],
+        ),
+        (
+            400,
+            3,
+            UNIFORM,
+            &SEARCHES,
+            [97, 150, 198, 315, 124, 170, 45, 79],
+        ),
         (
             20_000,
             1,
             SKEWED,
+            &WITHOUT_TURNS,
             [7333, 19_915, 1505, 12_866, 16_462, 18_707, 12_218, 9518],
         ),
         (
             20_000,
             16,
             SKEWED,
+            &SEARCHES,
             [4603, 9988, 9329, 14_770, 2404, 12_419, 3812, 3865],
         ),
     ] {
         let keys = numbered(&rt, count)?;
         let eight = numbered(&rt, 8)?;
-        for how in SEARCHES {
+        for &how in searches {
             match built(&rt, &keys, &[1], shape, parts, 16_777_216, how)? {
                 Ok(index) => {
                     for (place, value) in values.iter().enumerate() {

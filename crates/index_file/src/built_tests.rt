@@ -6,8 +6,10 @@ use hem_build::{How, Settings, build_keys};
 use pth_outside::KeyList;
 use std::fmt::Write;
 use std::process::Abort;
+use std::sync::Wait;
 use std::test::*;
 use std::thread::Threads;
+use turn_search::FreeGate;
 
 // The keys k0, k1 and so on, this many.
 fn numbered<R: Abort + AllocGlobal>(rt: &R, count: u64) -> Result<KeyList, Fail> {
@@ -22,7 +24,7 @@ fn numbered<R: Abort + AllocGlobal>(rt: &R, count: u64) -> Result<KeyList, Fail>
 }
 
 // Builds the index of some keys at seed 1.
-fn built<R: Abort + AllocGlobal + Threads + Sync>(
+fn built<R: Abort + AllocGlobal + Threads + Wait + Sync>(
     rt: &R,
     keys: &KeyList,
     map: Map,
@@ -43,7 +45,7 @@ fn built<R: Abort + AllocGlobal + Threads + Sync>(
         limit: 16_777_216,
         how: How::Alone,
     };
-    match build_keys(rt, rt.alloc(), keys, &settings) {
+    match build_keys(rt, rt.alloc(), keys, &settings, &FreeGate) {
         Ok(index) => Ok(index),
         Err(_) => panic!(rt; "no index"),
     }

@@ -11,6 +11,7 @@ ghost use Rattle.build_outcome.specs.Attempt.{partition_plan, part_of};
 ghost use Rattle.build_outcome.specs.OnePart.{one_part};
 ghost use Rattle.part_function.specs.Answers.{IsPartAnswer};
 
+use crate::equal_members::have_equal_members;
 use crate::free_positions::free_list;
 use crate::numbering::by_number;
 use crate::part::Part;
@@ -18,10 +19,13 @@ use bucket_map::{NoMemory, Record, Shape, bucket_count, ordered_buckets, table_s
 use pilot_search::{Placed, Plan, Scratch, Stuck, place, place_from, place_rounds};
 use settings::How;
 use std::alloc::Global;
+use std::sync::Wait;
 use std::thread::Threads;
+use turn_search::{Gate, search_turns};
 
-/// Builds the partition of some records, or answers the bucket that has no pilot: the same however it is searched.
-pub fn build_part<R: Threads + Sync>(
+/// Builds the partition of some records, or answers the bucket that has no pilot: the same however it is searched. Several
+/// workers by turns wait for each other, and tell the gate.
+pub fn build_part<R: Threads + Wait + Sync, G: Gate>(
     rt: &R,
     alloc: Global,
     records: &[Record],
@@ -29,6 +33,7 @@ pub fn build_part<R: Threads + Sync>(
     seed: u64,
     limit: u64,
     how: How,
+    gate: &G,
 ) -> Result<Result<Part, Stuck>, NoMemory>
     requires few { length records.now ≤ MAX_KEYS }
     requires some_pilot { 1 ≤ limit }
@@ -42,14 +47,14 @@ pub fn build_part<R: Threads + Sync>(
         return Ok(Ok(Part::empty(alloc)?));
     }
     let plan = plan_of(alloc, records, shape, seed, limit)?;
-    match search(rt, alloc, &plan, how)? {
+    match search(rt, alloc, &plan, how, gate)? {
         Ok(placed) => Ok(Ok(placed_part(alloc, records, shape, plan, placed)?)),
         Err(stuck) => Ok(Err(stuck)),
     }
 }
 
 /// The same with a room for the search that is lent, and grows where a bucket needs more.
-pub fn build_part_with<R: Threads + Sync>(
+pub fn build_part_with<R: Threads + Wait + Sync, G: Gate>(
     rt: &R,
     alloc: Global,
     records: &[Record],
@@ -58,6 +63,7 @@ pub fn build_part_with<R: Threads + Sync>(
     limit: u64,
     how: How,
     scratch: &mut Scratch,
+    gate: &G,
 ) -> Result<Result<Part, Stuck>, NoMemory>
     requires few { length records.now ≤ MAX_KEYS }
     requires some_pilot { 1 ≤ limit }
@@ -71,7 +77,7 @@ pub fn build_part_with<R: Threads + Sync>(
         return Ok(Ok(Part::empty(alloc)?));
     }
     let plan = plan_of(alloc, records, shape, seed, limit)?;
-    match search_with(rt, alloc, &plan, how, scratch)? {
+    match search_with(rt, alloc, &plan, how, scratch, gate)? {
         Ok(placed) => Ok(Ok(placed_part(alloc, records, shape, plan, placed)?)),
         Err(stuck) => Ok(Err(stuck)),
     }
@@ -103,49 +109,62 @@ fn plan_of(
     })
 }
 
-// The whole search. One worker and workers by turns search one bucket after another.
-fn search<R: Threads + Sync>(
+// The whole search. One worker searches one bucket after another.
+fn search<R: Threads + Wait + Sync, G: Gate>(
     rt: &R,
     alloc: Global,
     plan: &Plan,
     how: How,
+    gate: &G,
 ) -> Result<Result<Placed, Stuck>, NoMemory>
     requires { workers_of how ≤ MAX_WORKERS }
     ensures placed { IfOk result (λ answer. IfOk answer (λ placed. IsPlaced plan.now placed)) }
     ensures stuck { IfOk result (λ answer. IfErr answer (λ stuck. IsStuckAt plan.now stuck)) }
 {
     match how {
-        How::Rounds(workers) => {
-            if workers > 1 {
-                return place_rounds(rt, alloc, plan, workers);
-            }
-            place(alloc, plan)
-        }
-        How::Alone | How::Turns(_) => place(alloc, plan),
+        How::Rounds(workers) if workers > 1 => place_rounds(rt, alloc, plan, workers),
+        How::Turns(workers) if workers > 1 => by_turns(rt, alloc, plan, workers, gate),
+        _ => place(alloc, plan),
     }
 }
 
 // The same, lent a room.
-fn search_with<R: Threads + Sync>(
+fn search_with<R: Threads + Wait + Sync, G: Gate>(
     rt: &R,
     alloc: Global,
     plan: &Plan,
     how: How,
     scratch: &mut Scratch,
+    gate: &G,
 ) -> Result<Result<Placed, Stuck>, NoMemory>
     requires { workers_of how ≤ MAX_WORKERS }
     ensures placed { IfOk result (λ answer. IfOk answer (λ placed. IsPlaced plan.now placed)) }
     ensures stuck { IfOk result (λ answer. IfErr answer (λ stuck. IsStuckAt plan.now stuck)) }
 {
     match how {
-        How::Rounds(workers) => {
-            if workers > 1 {
-                return place_rounds(rt, alloc, plan, workers);
-            }
-            place_with(alloc, plan, scratch)
-        }
-        How::Alone | How::Turns(_) => place_with(alloc, plan, scratch),
+        How::Rounds(workers) if workers > 1 => place_rounds(rt, alloc, plan, workers),
+        How::Turns(workers) if workers > 1 => by_turns(rt, alloc, plan, workers, gate),
+        _ => place_with(alloc, plan, scratch),
     }
+}
+
+// Workers by turns. Where members are equal one worker is stuck at once, and several would try every pilot.
+fn by_turns<R: Threads + Wait + Sync, G: Gate>(
+    rt: &R,
+    alloc: Global,
+    plan: &Plan,
+    workers: u32,
+    gate: &G,
+) -> Result<Result<Placed, Stuck>, NoMemory>
+    requires some { 1 ≤ workers }
+    requires few { workers ≤ MAX_WORKERS }
+    ensures placed { IfOk result (λ answer. IfOk answer (λ placed. IsPlaced plan.now placed)) }
+    ensures stuck { IfOk result (λ answer. IfErr answer (λ stuck. IsStuckAt plan.now stuck)) }
+{
+    if have_equal_members(alloc, plan)? {
+        return place(alloc, plan);
+    }
+    search_turns(rt, alloc, plan, workers, gate)
 }
 
 // One bucket after another.

@@ -2,6 +2,7 @@
 #![tactic(auto)]
 
 mod build;
+mod equal_members;
 mod free_positions;
 mod numbering;
 mod part;

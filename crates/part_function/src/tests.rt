@@ -7,6 +7,7 @@ use pilot_search::{Occupancy, Scratch, Stuck, place_one};
 use std::alloc::Global;
 use std::process::Abort;
 use std::test::Fail;
+use turn_search::FreeGate;
 
 // The seed at which pilot 0 has the hash 0, so that a position is a second hash modulo the size.
 const SEED_OF_ZERO: u64 = 3_829_533_694_005_038_248;
@@ -24,7 +25,7 @@ fn record(a: u64, b: u64) -> Record {
 
 #[test]
 fn no_record_has_no_value(rt: HostRuntime) -> Result<(), Fail> {
-    match build_part(&rt, rt.alloc(), &[], SHAPE, 1, 1, How::Alone)? {
+    match build_part(&rt, rt.alloc(), &[], SHAPE, 1, 1, How::Alone, &FreeGate)? {
         Ok(part) => {
             assert_eq!(rt; part.n, 0);
             assert_eq!(rt; part.bucket_count(), 0);
@@ -49,6 +50,7 @@ fn one_record_has_the_value_zero(rt: HostRuntime) -> Result<(), Fail> {
         SEED_OF_ZERO,
         1,
         How::Alone,
+        &FreeGate,
     )? {
         Ok(part) => {
             assert_eq!(rt; part.n, 1);
@@ -74,7 +76,16 @@ fn a_taken_position_is_stuck(rt: HostRuntime) -> Result<(), Fail> {
     let mut scratch = Scratch::with(rt.alloc(), 0)?;
     let hows = [How::Alone, How::Rounds(1), How::Rounds(2), How::Turns(4)];
     for how in hows {
-        let alone = build_part(&rt, rt.alloc(), &records, SHAPE, SEED_OF_ZERO, 1, how)?;
+        let alone = build_part(
+            &rt,
+            rt.alloc(),
+            &records,
+            SHAPE,
+            SEED_OF_ZERO,
+            1,
+            how,
+            &FreeGate,
+        )?;
         let lent = build_part_with(
             &rt,
             rt.alloc(),
@@ -84,6 +95,7 @@ fn a_taken_position_is_stuck(rt: HostRuntime) -> Result<(), Fail> {
             1,
             how,
             &mut scratch,
+            &FreeGate,
         )?;
         for answer in [alone, lent] {
             match answer {
@@ -227,9 +239,27 @@ fn a_partition_is_the_same_however_it_is_searched(rt: HostRuntime) -> Result<(),
         for count in [40, 1500] {
             let records = records_of_numbers(rt.alloc(), count, count)?;
             assert!(rt; records.len() <= 1500);
-            let alone = build_part(&rt, rt.alloc(), &records, shape, count, 100_000, How::Alone)?;
+            let alone = build_part(
+                &rt,
+                rt.alloc(),
+                &records,
+                shape,
+                count,
+                100_000,
+                How::Alone,
+                &FreeGate,
+            )?;
             for how in [How::Alone, How::Rounds(1), How::Rounds(2), How::Turns(4)] {
-                let other = build_part(&rt, rt.alloc(), &records, shape, count, 100_000, how)?;
+                let other = build_part(
+                    &rt,
+                    rt.alloc(),
+                    &records,
+                    shape,
+                    count,
+                    100_000,
+                    how,
+                    &FreeGate,
+                )?;
                 let lent = build_part_with(
                     &rt,
                     rt.alloc(),
@@ -239,6 +269,7 @@ fn a_partition_is_the_same_however_it_is_searched(rt: HostRuntime) -> Result<(),
                     100_000,
                     how,
                     &mut scratch,
+                    &FreeGate,
                 )?;
                 match (&alone, other, lent) {
                     (Ok(part), Ok(other), Ok(lent)) => {

@@ -18,8 +18,10 @@ use std::alloc::Global;
 use std::env::Args;
 use std::io::ErrorKind;
 use std::process::ExitCode;
+use std::sync::Wait;
 use std::thread::Threads;
 use std::{env, io};
+use turn_search::FreeGate;
 
 fn main(rt: HostRuntime) -> ExitCode {
     let mut files = DiskFiles::new(rt.alloc(), &rt);
@@ -29,7 +31,7 @@ fn main(rt: HostRuntime) -> ExitCode {
 }
 
 // Does what the words ask for that the system gave after the program's name, and answers the status.
-fn answer<R: Threads + Sync, F: Files, O: Sink>(
+fn answer<R: Threads + Wait + Sync, F: Files, O: Sink>(
     rt: &R,
     alloc: Global,
     args: io::Result<Args>,
@@ -46,10 +48,10 @@ fn answer<R: Threads + Sync, F: Files, O: Sink>(
     ensures no_call { IsErr args → files.new ≡ files.old }
 {
     match words_after(alloc, args) {
-        Ok(words) => run(rt, alloc, &words, files, out),
+        Ok(words) => run(rt, alloc, &words, files, out, &FreeGate),
         Err(e) if e.kind() == ErrorKind::OutOfMemory => show_want(out),
         // No words can be told apart here, so what is refused is one that names no command.
-        Err(_) => run(rt, alloc, &[String::new(alloc)], files, out),
+        Err(_) => run(rt, alloc, &[String::new(alloc)], files, out, &FreeGate),
     }
 }
 

@@ -19,11 +19,13 @@ use hem_build::Built;
 use index_file::write_index;
 use pth_outside::{Files, Sink};
 use std::alloc::Global;
+use std::sync::Wait;
 use std::thread::Threads;
+use turn_search::Gate;
 
 /// Reads a key file, builds its index and writes it under a name, hands over its summary or why there is none, and answers
 /// the status.
-pub fn build_command<R: Threads + Sync, F: Files, O: Sink>(
+pub fn build_command<R: Threads + Wait + Sync, F: Files, O: Sink, G: Gate>(
     rt: &R,
     alloc: Global,
     keys: &str,
@@ -31,22 +33,24 @@ pub fn build_command<R: Threads + Sync, F: Files, O: Sink>(
     options: &Options,
     files: &mut F,
     out: &mut O,
+    gate: &G,
 ) -> u8
     ensures { Ends (Ok (BuildOf keys.now index.now (options_data options.now))) result
         (F.state files.old) (F.state files.new) (O.state out.old) (O.state out.new) }
 {
-    let answer = build(rt, alloc, keys, index, options, files);
+    let answer = build(rt, alloc, keys, index, options, files, gate);
     finish(alloc, answer, files, out)
 }
 
 // The file of the index of the keys of a file, under a name, or why there is none.
-fn build<R: Threads + Sync, F: Files>(
+fn build<R: Threads + Wait + Sync, F: Files, G: Gate>(
     rt: &R,
     alloc: Global,
     keys: &str,
     index: &str,
     options: &Options,
     files: &mut F,
+    gate: &G,
 ) -> Result<Answer, Stop>
     ensures done { IfOk result (λ answer. OfFile (F.state files.old).told keys.now (λ bytes.
         build_result index.now (options_data options.now) bytes ≡ done_of answer)) }
@@ -58,7 +62,7 @@ fn build<R: Threads + Sync, F: Files>(
     ensures leaves { ReadsFiles (F.state files.old) (F.state files.new)
         (IsErrOf result Stop.Fault) (contents (F.state files.old).told keys.now ≡ None) }
 {
-    match build_list(rt, alloc, files, keys, options)? {
+    match build_list(rt, alloc, files, keys, options, gate)? {
         Ok(built) => Ok(index_answer(alloc, &built, index, options.enc)?),
         Err(refusal) => Ok(refusal),
     }

@@ -3,8 +3,10 @@ use crate::run;
 use crate::tests::{only, texts};
 use pth_outside::{MemFiles, MemSink};
 use std::process::Abort;
+use std::sync::Wait;
 use std::test::Fail;
 use std::thread::Threads;
+use turn_search::FreeGate;
 
 // The index of one empty key with the settings by default.
 const INDEX: [u64; 20] = [
@@ -40,7 +42,7 @@ fn bytes_of<R: AllocGlobal>(rt: &R, numbers: &[u64]) -> Result<Vec<u8>, Fail> {
 }
 
 // A run of words over files K, I and Q, with the status, the text, and what I has afterwards.
-fn runs<R: Abort + AllocGlobal + Threads + Sync>(
+fn runs<R: Abort + AllocGlobal + Threads + Wait + Sync>(
     rt: &R,
     words: &[&str],
     files: &mut MemFiles,
@@ -50,7 +52,7 @@ fn runs<R: Abort + AllocGlobal + Threads + Sync>(
 ) -> Result<(), Fail> {
     let all = texts(rt, words)?;
     let mut out = MemSink::new(rt.alloc(), Vec::new(rt.alloc()));
-    let answer = run(rt, rt.alloc(), &all, files, &mut out);
+    let answer = run(rt, rt.alloc(), &all, files, &mut out, &FreeGate);
     assert_eq!(rt; answer, status, "for {words:?}");
     assert_eq!(rt; out.bytes(), text, "for {words:?}");
     assert_eq!(rt; files.get("I"), Some(index), "for {words:?}");
@@ -93,10 +95,16 @@ fn a_query_of_an_empty_partition_has_no_value(rt: HostRuntime) -> Result<(), Fai
     let mut files = files_of(&rt, Vec::new(rt.alloc()), b"\n", b"", b"\nk3\nk4\ny")?;
     let built = texts(&rt, &["build", "K", "I", "parts=8"])?;
     let mut out = MemSink::new(rt.alloc(), Vec::new(rt.alloc()));
-    assert_eq!(&rt; run(&rt, rt.alloc(), &built, &mut files, &mut out), 0);
+    assert_eq!(&rt;
+        run(&rt, rt.alloc(), &built, &mut files, &mut out, &FreeGate),
+        0
+    );
     let asked = texts(&rt, &["query", "I", "Q"])?;
     let mut out = MemSink::new(rt.alloc(), Vec::new(rt.alloc()));
-    assert_eq!(&rt; run(&rt, rt.alloc(), &asked, &mut files, &mut out), 0);
+    assert_eq!(&rt;
+        run(&rt, rt.alloc(), &asked, &mut files, &mut out, &FreeGate),
+        0
+    );
     assert_eq!(&rt; out.bytes(), b"0\n0\n-\n-\n".as_slice());
     Ok(())
 }
@@ -145,7 +153,7 @@ fn refusals_change_no_file(rt: HostRuntime) -> Result<(), Fail> {
 }
 
 // A refusal leaves all files as they were.
-fn refuses<R: Abort + AllocGlobal + Threads + Sync>(
+fn refuses<R: Abort + AllocGlobal + Threads + Wait + Sync>(
     rt: &R,
     words: &[&str],
     keys: &[u8],
@@ -196,7 +204,7 @@ fn a_sink_that_fails_leaves_the_new_index(rt: HostRuntime) -> Result<(), Fail> {
 }
 
 // A build into a sink that fails, with the status, the text of which half is there, and what I has afterwards.
-fn shows_half<R: Abort + AllocGlobal + Threads + Sync>(
+fn shows_half<R: Abort + AllocGlobal + Threads + Wait + Sync>(
     rt: &R,
     keys: &[u8],
     status: u8,
@@ -206,7 +214,10 @@ fn shows_half<R: Abort + AllocGlobal + Threads + Sync>(
     let words = texts(rt, &["build", "K", "I"])?;
     let mut files = files_of(rt, Vec::new(rt.alloc()), keys, b"old", b"")?;
     let mut out = MemSink::new(rt.alloc(), only(rt, 0)?);
-    assert_eq!(rt; run(rt, rt.alloc(), &words, &mut files, &mut out), status);
+    assert_eq!(rt;
+        run(rt, rt.alloc(), &words, &mut files, &mut out, &FreeGate),
+        status
+    );
     assert_eq!(rt; out.bytes(), &text[..text.len() / 2]);
     assert_eq!(rt; files.get("I"), Some(index));
     Ok(())

@@ -15,6 +15,8 @@ mod summary;
 mod tests;
 mod text;
 mod top;
+#[cfg(test)]
+mod turn_tests;
 mod values;
 
 pub use command_words::{Command, Options, WordFault, WordsErr, read_words};

@@ -15,7 +15,9 @@ use command_words::Options;
 use hem_build::{Built, Causes, Refusal, build_keys};
 use pth_outside::{Files, KeyList, KeysErr, read_keys};
 use std::alloc::{AllocError, Global};
+use std::sync::Wait;
 use std::thread::Threads;
+use turn_search::Gate;
 
 /// The list that a file has, of at most so many of these, or the refusal that the file deserves.
 pub fn read_list<F: Files>(
@@ -45,12 +47,13 @@ pub fn read_list<F: Files>(
 }
 
 /// The index of the keys of a file, or the refusal that the file and the settings deserve. The keys are let go of.
-pub fn build_list<R: Threads + Sync, F: Files>(
+pub fn build_list<R: Threads + Wait + Sync, F: Files, G: Gate>(
     rt: &R,
     alloc: Global,
     files: &mut F,
     name: &str,
     options: &Options,
+    gate: &G,
 ) -> Result<Result<Built, Answer>, Stop>
     ensures done { IfOk result (λ end. OfFile (F.state files.old).told name.now (λ bytes.
         index_in (options_data options.now) bytes ≡ or_refused end)) }
@@ -62,17 +65,18 @@ pub fn build_list<R: Threads + Sync, F: Files>(
         (IsErrOf result Stop.Fault) (contents (F.state files.old).told name.now ≡ None) }
 {
     match read_list(alloc, files, name, "keys", options.most)? {
-        Ok(keys) => Ok(build_all(rt, alloc, &keys, options)?),
+        Ok(keys) => Ok(build_all(rt, alloc, &keys, options, gate)?),
         Err(refusal) => Ok(Err(refusal)),
     }
 }
 
 // The index of some keys, or the refusal that they and the settings deserve.
-fn build_all<R: Threads + Sync>(
+fn build_all<R: Threads + Wait + Sync, G: Gate>(
     rt: &R,
     alloc: Global,
     keys: &KeyList,
     options: &Options,
+    gate: &G,
 ) -> Result<Result<Built, Answer>, NoMemory>
     requires { length keys.now ≤ options.now.most }
     ensures done { IfOk result (λ end.
@@ -83,7 +87,7 @@ fn build_all<R: Threads + Sync>(
     if keys.len() == 0 {
         return Ok(Err(no_keys_answer(alloc)?));
     }
-    match build_keys(rt, alloc, keys, &options.settings) {
+    match build_keys(rt, alloc, keys, &options.settings, gate) {
         Ok(built) => Ok(Ok(built)),
         Err(Refusal::RepeatedKey { first, second }) => {
             Ok(Err(repeated_answer(alloc, first, second)?))

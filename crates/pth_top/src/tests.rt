@@ -3,8 +3,10 @@ use crate::run;
 use pth_outside::{MemFiles, MemSink};
 use std::fmt::Write;
 use std::process::Abort;
+use std::sync::Wait;
 use std::test::Fail;
 use std::thread::Threads;
+use turn_search::FreeGate;
 
 // The words, each as a text of its own.
 pub(crate) fn texts<R: AllocGlobal>(rt: &R, words: &[&str]) -> Result<Vec<String>, Fail> {
@@ -32,7 +34,7 @@ fn numbered<R: AllocGlobal>(rt: &R, count: u64) -> Result<String, Fail> {
 }
 
 // Runs the words over a file K of these bytes, and looks at the status and the text.
-fn runs<R: Abort + AllocGlobal + Threads + Sync>(
+fn runs<R: Abort + AllocGlobal + Threads + Wait + Sync>(
     rt: &R,
     words: &[&str],
     keys: &[u8],
@@ -43,7 +45,7 @@ fn runs<R: Abort + AllocGlobal + Threads + Sync>(
     let mut files = MemFiles::new(rt.alloc(), Vec::new(rt.alloc()), 7);
     files.put("K", keys)?;
     let mut out = MemSink::new(rt.alloc(), Vec::new(rt.alloc()));
-    let answer = run(rt, rt.alloc(), &all, &mut files, &mut out);
+    let answer = run(rt, rt.alloc(), &all, &mut files, &mut out, &FreeGate);
     assert_eq!(rt; answer, status, "for {words:?}");
     assert_eq!(rt; out.bytes(), text.as_bytes(), "for {words:?}");
     assert_eq!(rt; files.get("K"), Some(keys), "for {words:?}");
@@ -206,7 +208,10 @@ fn each_call_on_the_files_may_fail(rt: HostRuntime) -> Result<(), Fail> {
         let mut files = MemFiles::new(rt.alloc(), only(&rt, call)?, 7);
         files.put("K", b"\n")?;
         let mut out = MemSink::new(rt.alloc(), Vec::new(rt.alloc()));
-        assert_eq!(rt; run(&rt, rt.alloc(), &words, &mut files, &mut out), status);
+        assert_eq!(rt;
+            run(&rt, rt.alloc(), &words, &mut files, &mut out, &FreeGate),
+            status
+        );
         assert_eq!(rt; out.bytes(), text.as_bytes());
     }
     Ok(())
@@ -219,7 +224,10 @@ fn a_sink_that_fails_has_half_the_text(rt: HostRuntime) -> Result<(), Fail> {
         let mut files = MemFiles::new(rt.alloc(), Vec::new(rt.alloc()), 7);
         files.put("K", keys.as_bytes())?;
         let mut out = MemSink::new(rt.alloc(), only(&rt, 0)?);
-        assert_eq!(rt; run(&rt, rt.alloc(), &words, &mut files, &mut out), status);
+        assert_eq!(rt;
+            run(&rt, rt.alloc(), &words, &mut files, &mut out, &FreeGate),
+            status
+        );
         assert_eq!(rt; out.bytes(), &text.as_bytes()[..text.len() / 2]);
     }
     Ok(())
@@ -233,7 +241,10 @@ fn each_text_is_one_write(rt: HostRuntime) -> Result<(), Fail> {
         let mut files = MemFiles::new(rt.alloc(), Vec::new(rt.alloc()), 7);
         files.put("K", b"\n")?;
         let mut out = MemSink::new(rt.alloc(), only(&rt, 1)?);
-        assert_eq!(rt; run(&rt, rt.alloc(), &words, &mut files, &mut out), 0);
+        assert_eq!(rt;
+            run(&rt, rt.alloc(), &words, &mut files, &mut out, &FreeGate),
+            0
+        );
         assert_eq!(rt; out.bytes(), text.as_bytes());
     }
     Ok(())

@@ -19,16 +19,19 @@ use crate::{FAILED_OUTPUT, FILE_FAULT, NO_MEMORY, REPEATED_KEY, WORDS_REFUSED};
 use command_words::{Command, WordFault, WordsErr, read_words};
 use pth_outside::{Files, Sink};
 use std::alloc::Global;
+use std::sync::Wait;
 use std::thread::Threads;
+use turn_search::Gate;
 
 /// Does what the words after the program's name ask for, writes the file that it gives, hands the text over to the sink in
-/// one piece, and answers the status.
-pub fn run<R: Threads + Sync, F: Files, O: Sink>(
+/// one piece, and answers the status. Several workers by turns wait for each other, and tell the gate.
+pub fn run<R: Threads + Wait + Sync, F: Files, O: Sink, G: Gate>(
     rt: &R,
     alloc: Global,
     words: &[String],
     files: &mut F,
     out: &mut O,
+    gate: &G,
 ) -> u8
     // What the words ask for was done: status, text and files are those of the definition.
     ensures done { IsOfCommand result → IfSome (F.state files.old).told (λ m.
@@ -76,16 +79,17 @@ pub fn run<R: Threads + Sync, F: Files, O: Sink>(
         (new_file (command_of (words_of words.now)) (F.state files.old).told) result
         (F.state files.old).told (F.state files.new).told }
 {
-    run_words(rt, alloc, words, files, out)
+    run_words(rt, alloc, words, files, out, gate)
 }
 
 // The same, with what each command promises in one record.
-fn run_words<R: Threads + Sync, F: Files, O: Sink>(
+fn run_words<R: Threads + Wait + Sync, F: Files, O: Sink, G: Gate>(
     rt: &R,
     alloc: Global,
     words: &[String],
     files: &mut F,
     out: &mut O,
+    gate: &G,
 ) -> u8
     ensures ends { Ends (command_of (words_of words.now)) result
         (F.state files.old) (F.state files.new) (O.state out.old) (O.state out.new) }
@@ -96,7 +100,7 @@ fn run_words<R: Threads + Sync, F: Files, O: Sink>(
 {
     match read_words(alloc, words) {
         Ok(Command::Pilots { keys, options }) => {
-            pilots_command(rt, alloc, &keys, &options, files, out)
+            pilots_command(rt, alloc, &keys, &options, files, out, gate)
         }
         Ok(
             Command::Build {
@@ -104,7 +108,7 @@ fn run_words<R: Threads + Sync, F: Files, O: Sink>(
                 index,
                 options,
             },
-        ) => build_command(rt, alloc, &keys, &index, &options, files, out),
+        ) => build_command(rt, alloc, &keys, &index, &options, files, out, gate),
         Ok(Command::Query { index, queries }) => query_command(alloc, &index, &queries, files, out),
         Err(WordsErr::Bad(fault)) => refuse(alloc, fault, out),
         Err(WordsErr::NoMemory) => show_want(out),
