@@ -197,7 +197,7 @@ fn keys_have_their_values(rt: HostRuntime) -> Result<(), Fail> {
             20_000,
             16,
             SKEWED,
-            &SEARCHES,
+            &WITHOUT_TURNS,
             [4603, 9988, 9329, 14_770, 2404, 12_419, 3812, 3865],
         ),
     ] {
