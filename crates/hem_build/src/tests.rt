@@ -47,7 +47,7 @@ const MARK_OF_A_B_C: KeyMark = KeyMark {
 };
 
 // A build by one thread, by rounds and by turns, each with few and with many workers.
-const SEARCHES: [How; 8] = [
+const SEARCHES: [How; 7] = [
     How::Alone,
     How::Rounds(1),
     How::Rounds(2),
@@ -55,7 +55,6 @@ const SEARCHES: [How; 8] = [
     How::Turns(1),
     How::Turns(2),
     How::Turns(7),
-    How::Turns(64),
 ];
 
 // The searches without turns of several workers. A turn waits until its thread is run, which takes long for many buckets where
@@ -124,6 +123,7 @@ fn stuck_seeds_have_their_first_stuck_partition(rt: HostRuntime) -> Result<(), F
         ),
         (90, 8, 7, &SEARCHES, &[110, 117], &[(3, 8), (3, 17)]),
         (100, 8, 1, &SEARCHES, &[1], &[(0, 1)]),
+        (100, 8, 1, &[How::Turns(64)], &[1], &[(0, 1)]),
         (
             100,
             8,
@@ -197,7 +197,7 @@ fn keys_have_their_values(rt: HostRuntime) -> Result<(), Fail> {
             20_000,
             16,
             SKEWED,
-            &SEARCHES,
+            &WITHOUT_TURNS,
             [4603, 9988, 9329, 14_770, 2404, 12_419, 3812, 3865],
         ),
     ] {
