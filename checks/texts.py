@@ -6,7 +6,7 @@ usage: texts.py PROGRAM
 checks/pilots.tsv: the key file (checks/pilots/NAME.keys, or one of those that `made` describes), further words, the
 status and the text. checks/words.tsv: all words, over a file K of one empty line, the status and the text. A text is
 `text` and the text with \\n for a line feed, or `sha256 SUM length N`; in words.tsv it is the text alone.
-checks/indexes.tsv, checks/queries.tsv and checks/commands.tsv say in their heads what they hold. The stored run of the crate
+checks/indexes.tsv, checks/queries.tsv, checks/stats.tsv and checks/commands.tsv say in their heads what they hold. The stored run of the crate
 `check_index` has indexes with a fault, and the words for each.
 """
 import hashlib
@@ -14,6 +14,8 @@ import pathlib
 import subprocess
 import sys
 import tempfile
+
+from read_index import hash_of
 
 HERE = pathlib.Path(__file__).resolve().parent
 MULTIPLIER = 0xC6A4A7935BD1E995
@@ -55,6 +57,12 @@ def written(name):
         return b"".join(b"k%d\n" % i for i in range(int(rest)))
     count, _, seed = rest.partition(":")
     return generated(int(count), int(seed))
+
+
+def first_version(index):
+    """The same index in the first version of the file, which has no mark."""
+    body = index[:4] + b"\x01" + index[5:48] + index[64:-8]
+    return body + hash_of(body, 0).to_bytes(8, "little")
 
 
 def plain(text):
@@ -134,6 +142,16 @@ class Checks:
             right = run.returncode == int(status) and run.stdout == plain(want)
             self.same(("query", keys, settings, queries), right, (run.returncode, run.stdout), (status, want))
 
+    def stats(self):
+        for version, keys, settings, status, want in table("stats.tsv"):
+            self.put("K", written(keys))
+            self.run(["build", "K", "I", *settings.split()])
+            if version == "1":
+                self.put("I", first_version((self.folder / "I").read_bytes()))
+            run = self.run(["stats", "I"])
+            right = run.returncode == int(status) and run.stdout == plain(want)
+            self.same(("stats", version, keys, settings), right, (run.returncode, run.stdout), (status, want))
+
     def commands(self):
         self.put("K", b"\n")
         self.run(["build", "K", "I"])
@@ -153,11 +171,16 @@ class Checks:
         lines = (stored / "stdin").read_text().splitlines(), (stored / "stdout").read_text().splitlines()
         self.put("Q", b"")
         for line, fault in zip(*lines):
-            if " " not in line and fault != "ok":
-                self.put("I", bytes.fromhex(line))
-                run = self.run(["query", "I", "Q"])
-                want = b"index refused: %s\n" % fault.encode()
-                self.same(("query", line[:80]), (run.returncode, run.stdout) == (6, want), (run.returncode, run.stdout), (6, want))
+            if " " in line:
+                continue
+            self.put("I", bytes.fromhex(line))
+            if fault == "ok":
+                self.same(("stats", line[:80]), self.run(["stats", "I"]).returncode == 0, "refused", fault)
+                continue
+            want = b"index refused: %s\n" % fault.encode()
+            for words in [["query", "I", "Q"], ["stats", "I"]]:
+                run = self.run(words)
+                self.same((words[0], line[:80]), (run.returncode, run.stdout) == (6, want), (run.returncode, run.stdout), (6, want))
 
 
 def main():
@@ -166,6 +189,7 @@ def main():
         checks.texts()
         checks.indexes()
         checks.queries()
+        checks.stats()
         checks.refusals()
         checks.commands()
     print(f"texts and indexes of the program: {checks.passed} passed, {checks.failed} failed")

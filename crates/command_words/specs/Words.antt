@@ -3,7 +3,7 @@ use Rattle.std.specs.Prelude.{ℕ, ◌+◌, List, [], ◌∷◌, string_bytes, c
 use Rattle.command_words.specs.declared.faults.WordFault.{WordFault}
 use Rattle.command_words.specs.declared.kinds.TheConstants.{COMMAND, MISSING, EXTRA, SAME_NAME}
 use Rattle.command_words.specs.declared.words.Command.{Command}
-use Rattle.command_words.specs.declared.words.Command.TheVariants.{Pilots, Build, Query}
+use Rattle.command_words.specs.declared.words.Command.TheVariants.{Pilots, Build, Query, Stats}
 use Rattle.command_words.specs.declared.words.Name.{Name}
 use Rattle.command_words.specs.declared.words.Name.TheVariants as name
 use Rattle.command_words.specs.Names.{belongs_to_index}
@@ -15,12 +15,14 @@ pub data CommandData : Type 0 where
   PilotsOf : List ℕ → OptionsData → CommandData
   BuildOf : List ℕ → List ℕ → OptionsData → CommandData
   QueryOf : List ℕ → List ℕ → CommandData
+  StatsOf : List ℕ → CommandData
 
 -- a command as data
 abbrev pub command_data : Command → CommandData
 command_data (Pilots keys options) = PilotsOf (string_bytes keys) (options_data options)
 command_data (Build keys index options) = BuildOf (string_bytes keys) (string_bytes index) (options_data options)
 command_data (Query index queries) = QueryOf (string_bytes index) (string_bytes queries)
+command_data (Stats index) = StatsOf (string_bytes index)
 
 -- a fault of this kind in this word
 abbrev pub fault_at : ℕ → ℕ → WordFault
@@ -73,12 +75,19 @@ query_of (index ∷ []) = Err (fault_at 2 MISSING)
 query_of (index ∷ queries ∷ []) = Ok (QueryOf index queries)
 query_of (index ∷ queries ∷ extra ∷ more) = Err (fault_at 3 EXTRA)
 
+-- the command `stats`, from the words after it: the index
+abbrev pub stats_of : List (List ℕ) → Result CommandData WordFault
+stats_of [] = Err (fault_at 1 MISSING)
+stats_of (index ∷ []) = Ok (StatsOf index)
+stats_of (index ∷ extra ∷ more) = Err (fault_at 2 EXTRA)
+
 -- the name of a command that a word is
 abbrev pub name_of : List ℕ → Option Name
 name_of word =
     if bytes_eq word (codes "pilots") then Some name.Pilots
     else if bytes_eq word (codes "build") then Some name.Build
     else if bytes_eq word (codes "query") then Some name.Query
+    else if bytes_eq word (codes "stats") then Some name.Stats
     else None
 
 -- the command of a name, from the words after it
@@ -87,6 +96,7 @@ command_named None words = Err (fault_at 0 COMMAND)
 command_named (Some name.Pilots) words = pilots_of words
 command_named (Some name.Build) words = build_of words
 command_named (Some name.Query) words = query_of words
+command_named (Some name.Stats) words = stats_of words
 
 -- the command that the words after the program's name ask for, or the first faulty word
 unfoldable pub command_of : List (List ℕ) → Result CommandData WordFault

@@ -105,10 +105,18 @@ const FAULTY_OF_TWO: [(&str, u64, u8); 18] = [
     ("Build K I", 0, COMMAND),
 ];
 
+// The same of the other commands.
+const FAULTY_OF_OTHERS: [(&str, u64, u8); 3] = [
+    ("stats", 1, MISSING),
+    ("stats I x", 2, EXTRA),
+    ("stats I x=1 y", 2, EXTRA),
+];
+
 #[test]
 fn the_first_faulty_word_is_named(rt: HostRuntime) -> Result<(), Fail> {
     are_faulty(&rt, &FAULTY)?;
-    are_faulty(&rt, &FAULTY_OF_TWO)
+    are_faulty(&rt, &FAULTY_OF_TWO)?;
+    are_faulty(&rt, &FAULTY_OF_OTHERS)
 }
 
 // Each line has its first faulty word and the kind of its fault.
@@ -195,5 +203,9 @@ fn names_are_kept_as_they_stand(rt: HostRuntime) -> Result<(), Fail> {
         return Err(Fail::from("a good line is refused"));
     };
     assert_eq!(&rt; (index.as_str(), queries.as_str()), ("I", "I"));
+    let Ok(Command::Stats { index }) = read_line(rt.alloc(), "stats alpha=1")? else {
+        return Err(Fail::from("a good line is refused"));
+    };
+    assert_eq!(&rt; index.as_str(), "alpha=1");
     Ok(())
 }

@@ -3,7 +3,7 @@ ghost use Rattle.std.specs.Prelude.{◌≡◌, ◌+◌, ◌<◌, ◌^◌, IfOk, 
 ghost use Rattle.command_words.specs.Options.{words_of, options_data};
 ghost use Rattle.command_words.specs.Refusals.{IfBad};
 ghost use Rattle.command_words.specs.Settings.{chosen_values, nothing_given};
-ghost use Rattle.command_words.specs.Words.{command_data, name_of, command_named, command_of, pilots_of, build_of, query_of, options_in, given_by};
+ghost use Rattle.command_words.specs.Words.{command_data, name_of, command_named, command_of, pilots_of, build_of, query_of, stats_of, options_in, given_by};
 
 use crate::chosen::Chosen;
 use crate::faults::{Refusal, WordFault, WordsErr};
@@ -28,6 +28,9 @@ pub enum Command {
         index: String,
         queries: String,
     },
+    Stats {
+        index: String,
+    },
 }
 
 // The name of a command.
@@ -36,6 +39,7 @@ pub enum Name {
     Pilots,
     Build,
     Query,
+    Stats,
 }
 
 /// The command that the words after the program's name ask for, or the first faulty word.
@@ -67,6 +71,7 @@ fn name_in(word: &str) -> Option<Name>
         "pilots" => Some(Name::Pilots),
         "build" => Some(Name::Build),
         "query" => Some(Name::Query),
+        "stats" => Some(Name::Stats),
         _ => None,
     }
 }
@@ -82,6 +87,7 @@ fn read_command(alloc: Global, name: Name, words: &[String]) -> Result<Command, 
         Name::Pilots => read_pilots(alloc, words),
         Name::Build => read_build(alloc, words),
         Name::Query => read_query(alloc, words),
+        Name::Stats => read_stats(alloc, words),
     }
 }
 
@@ -139,6 +145,21 @@ fn read_query(alloc: Global, words: &[String]) -> Result<Command, WordsErr>
     let index = String::from_str(alloc, index)?;
     let queries = String::from_str(alloc, queries)?;
     Ok(Command::Query { index, queries })
+}
+
+// The command `stats`, from the words after it.
+fn read_stats(alloc: Global, words: &[String]) -> Result<Command, WordsErr>
+    ensures ok { IfOk result (λ c. stats_of (words_of words.now) ≡ Ok (command_data c)) }
+    ensures bad { IfErr result (IfBad (λ fault. stats_of (words_of words.now) ≡ Err fault)) }
+{
+    let Some((index, more)) = words.split_first() else {
+        return Err(bad(1, MISSING));
+    };
+    if more.is_empty() {
+        let index = String::from_str(alloc, index)?;
+        return Ok(Command::Stats { index });
+    }
+    Err(bad(2, EXTRA))
 }
 
 // The settings that words give, the first of them in this word.

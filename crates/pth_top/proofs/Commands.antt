@@ -4,7 +4,7 @@ use Rattle.std.specs.Prelude.{IsSomeAnd, option_and_then}
 use Rattle.std.specs.FinMap as map
 use Rattle.build_outcome.specs.Index.{IndexData}
 use Rattle.command_words.specs.Options.{OptionsData}
-use Rattle.command_words.specs.Words.{PilotsOf, BuildOf, QueryOf}
+use Rattle.command_words.specs.Words.{PilotsOf, BuildOf, QueryOf, StatsOf}
 use Rattle.index_file.specs.Encoded.{EncodedIndex}
 use Rattle.index_text.specs.Text.{index_text, IsIndex}
 use Rattle.pth_outside.specs.Files.{FileMap, FilesState, ReadsFiles, OfFile, contents}
@@ -19,6 +19,7 @@ use Rattle.pth_top.specs.Ending.{Answers}
 use Rattle.pth_top.specs.Lists.{IsIndexFor}
 use Rattle.pth_top.specs.Pilots.{pilots_result}
 use Rattle.pth_top.specs.Query.{index_read, query_result}
+use Rattle.pth_top.specs.Stats.{stats_result}
 use Rattle.pth_top.specs.Words.{command_result, with_index}
 use Rattle.pth_top.proofs.Listed.{over_file, over_none}
 use Rattle.pth_top.proofs.Replacing.{with_new-name}
@@ -93,6 +94,18 @@ pub answers_query : (index queries : List ℕ) (answer : Result Answer Stop) (ol
     ReadsFiles old new (IsErrOf answer Fault) (IfSome old.told (λ m. command_result (Ok (QueryOf index queries)) m ≡ None)) →
     Answers (Ok (QueryOf index queries)) answer old new
 answers_query index queries answer old new done reads = record { done = done; builds = nothing_built answer old.told; reads = reads }
+
+-- the answer of `stats`
+pub answers_stats : (index : List ℕ) (answer : Result Answer Stop) (old new : FilesState) →
+    IfOk answer (λ a. OfFile old.told index (λ bytes. stats_result bytes ≡ done_of a)) →
+    ReadsFiles old new (IsErrOf answer Fault) (contents old.told index ≡ None) → Answers (Ok (StatsOf index)) answer old new
+answers_stats index answer old new done reads = record {
+  done = each_ok answer (λ a. OfFile old.told index (λ bytes. stats_result bytes ≡ done_of a))
+      (λ a. IfSome old.told (λ m. command_result (Ok (StatsOf index)) m ≡ Some (done_of a)))
+      (λ a of. over_file old.told index stats_result (done_of a) of) done;
+  builds = nothing_built answer old.told;
+  reads = ReadsFiles-if old new (λ is. is) (over_none old.told index stats_result) reads;
+}
 
 -- the file of an index that was built
 pub file_of_built : (name : List ℕ) (o : OptionsData) (keys : List (List ℕ)) (x : IndexData) (d : Done) → d ≡ index_file_of name o.enc x →

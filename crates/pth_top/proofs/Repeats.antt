@@ -8,7 +8,7 @@ use Rattle.build_outcome.specs.Outcome.{Outcome, repeated, exhausted, built, out
 use Rattle.build_outcome.specs.OutcomeLaws.{repeated_key}
 use Rattle.command_words.specs.declared.faults.WordFault.{WordFault}
 use Rattle.command_words.specs.Options.{OptionsData}
-use Rattle.command_words.specs.Words.{CommandData, PilotsOf, BuildOf, QueryOf}
+use Rattle.command_words.specs.Words.{CommandData, PilotsOf, BuildOf, QueryOf, StatsOf}
 use Rattle.hem_build.specs.Rules.{rules_of}
 use Rattle.index_file.specs.Encoded.{EncodedIndex}
 use Rattle.index_text.specs.declared.fault.IndexFault.{IndexFault}
@@ -22,6 +22,7 @@ use Rattle.pth_top.specs.Lists.{HasRepeat, and_then, gives, list_in, unless_too_
 use Rattle.pth_top.specs.Build.{build_result, index_file_of}
 use Rattle.pth_top.specs.Pilots.{pilots_result, pilots_of_index}
 use Rattle.pth_top.specs.Query.{faulty_result, index_read, unless_faulty, query_result, values_of}
+use Rattle.pth_top.specs.Stats.{stats_of_index, stats_result}
 use Rattle.pth_top.specs.Words.{command_result, with_index, CommandRepeats}
 
 -- an outcome with this status
@@ -104,6 +105,18 @@ not_of_files : (index queries : Option (List ℕ)) (d : Done) →
 not_of_files None queries d is status = cc
 not_of_files (Some bytes) queries d is status = not_of_index (index_at bytes) queries d is status
 
+-- nor do the lines on an index
+not_of_head : (read : Result (IndexData × Encoding) IndexFault) → (gives (unless_faulty read) stats_of_index).status ≡ REPEATED_KEY → ⊥
+not_of_head (Err fault) status = omega arith
+not_of_head (Ok read) status = omega arith
+
+-- nor does the file of an index
+not_of_stats : (found : Option (List ℕ)) (d : Done) → option_map stats_result found ≡ Some d → d.status ≡ REPEATED_KEY → ⊥
+not_of_stats None d is status = cc
+not_of_stats (Some bytes) d is status =
+    let same : stats_result bytes ≡ d = cc in
+    not_of_head (index_at bytes) (ap (λ (x : Done). x.status) same ∙ status)
+
 -- a command with this status
 of_command : (command : Result CommandData WordFault) (m : FileMap) (d : Done) → command_result command m ≡ Some d →
     d.status ≡ REPEATED_KEY → CommandRepeats command m
@@ -112,6 +125,7 @@ of_command (Err fault) m d is status =
 of_command (Ok (PilotsOf keys o)) m d is status = of_file o (map.get m keys) pilots_of_index d (λ x. refl) is status
 of_command (Ok (BuildOf keys index o)) m d is status = of_file o (map.get m keys) (index_file_of index o.enc) d (λ x. refl) is status
 of_command (Ok (QueryOf index queries)) m d is status = absurd (not_of_files (map.get m index) (map.get m queries) d is status)
+of_command (Ok (StatsOf index)) m d is status = absurd (not_of_stats (map.get m index) d is status)
 
 -- a command over files that tell
 pub command_repeats : (command : Result CommandData WordFault) (told : Option FileMap) (d : Done) →

@@ -1,7 +1,15 @@
 -- The texts that the program prints. Each line ends with a line feed.
-use Rattle.std.specs.Prelude.{ℕ, ◌+◌, ◌==◌, List, [], ◌∷◌, ◌++◌, length, codes, decimal, flat_map, if◌then◌else◌}
+use Rattle.std.specs.Prelude.{ℕ, ◌+◌, ◌==◌, List, [], ◌∷◌, ◌++◌, length, codes, decimal, flat_map, if◌then◌else◌, Option, Some, None}
+use Rattle.std.specs.Int.{w64, to_be_bytes}
+use Rattle.hex.specs.Hex.{encode_lower}
+use Rattle.pthash.specs.declared.Map.{Map}
+use Rattle.pthash.specs.declared.Map.TheVariants as map
+use Rattle.pilot_codecs.specs.declared.code.Code.{Code}
+use Rattle.pilot_codecs.specs.declared.code.Code.TheVariants as code
+use Rattle.pilot_codecs.specs.declared.code.Encoding.{Encoding}
 use Rattle.build_outcome.specs.declared.Cause.{Cause}
 use Rattle.build_outcome.specs.declared.Cause.TheVariants.{SameHash, Stuck}
+use Rattle.build_outcome.specs.Index.{KeyMarkData}
 use Rattle.index_text.specs.declared.fault.IndexFault.{IndexFault}
 use Rattle.index_text.specs.declared.fault.IndexFault.TheVariants as faults
 use Rattle.command_words.specs.declared.kinds.TheConstants.{COMMAND, MISSING, EXTRA, NAME, REPEATED, NUMBER, RANGE}
@@ -49,6 +57,35 @@ too_many what most = line (codes "too many " ++ what ++ codes ": limit " ++ deci
 -- two lines, by their numbers from 1, hold the same key
 unfoldable pub repeated_key : ℕ → ℕ → List ℕ
 repeated_key first second = line (codes "repeated key: lines " ++ decimal first ++ codes " and " ++ decimal second)
+
+-- a number in 16 lower-case hexadecimal digits
+abbrev pub sixteen_digits : ℕ → List ℕ
+sixteen_digits number = encode_lower (to_be_bytes w64 number)
+
+-- the two numbers of a mark after a word
+unfoldable pub word_of_mark : List ℕ → KeyMarkData → List ℕ
+word_of_mark word mark = word ++ sixteen_digits mark.sum ++ codes " " ++ sixteen_digits mark.xor
+
+-- the name of a code, as the setting spells it
+unfoldable pub code_name : Code → List ℕ
+code_name code.Compact = codes "c"
+code_name code.Parted = codes "pc"
+code_name code.Dict = codes "d"
+code_name code.EliasFano = codes "ef"
+
+-- the back code after a dash, if there is one
+abbrev pub back_name : Option Code → List ℕ
+back_name None = []
+back_name (Some back) = codes "-" ++ code_name back
+
+-- the name of an encoding, as the setting spells it
+unfoldable pub encoding_name : Encoding → List ℕ
+encoding_name enc = code_name enc.front ++ back_name enc.back
+
+-- the name of a map, as the setting spells it
+unfoldable pub map_name : Map → List ℕ
+map_name map.Skewed = codes "skewed"
+map_name map.Uniform = codes "uniform"
 
 -- each number after a space
 abbrev pub spaced : List ℕ → List ℕ

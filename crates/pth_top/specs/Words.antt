@@ -2,7 +2,7 @@
 use Rattle.std.specs.Prelude.{ℕ, List, Option, Some, Result, Ok, Err, IsSomeAnd, option_map, option_and_then}
 use Rattle.std.specs.FinMap as fin
 use Rattle.command_words.specs.declared.faults.WordFault.{WordFault}
-use Rattle.command_words.specs.Words.{CommandData, PilotsOf, BuildOf, QueryOf, command_of}
+use Rattle.command_words.specs.Words.{CommandData, PilotsOf, BuildOf, QueryOf, StatsOf, command_of}
 use Rattle.index_file.specs.Encoded.{EncodedIndex}
 use Rattle.pth_outside.specs.Files.{FileMap, contents}
 use Rattle.pth_outside.specs.Keys.{keys_of}
@@ -12,6 +12,7 @@ use Rattle.pth_top.specs.Build.{build_result, IsFileFor}
 use Rattle.pth_top.specs.Lists.{HasRepeat}
 use Rattle.pth_top.specs.Pilots.{pilots_result}
 use Rattle.pth_top.specs.Query.{index_read, query_result}
+use Rattle.pth_top.specs.Stats.{stats_result}
 use Rattle.pth_top.specs.Texts.{refused_word}
 
 -- the answer to words with this fault
@@ -30,6 +31,7 @@ command_result (Ok (PilotsOf keys options)) files = option_map (pilots_result op
 command_result (Ok (BuildOf keys index options)) files = option_map (build_result index options) (fin.get files keys)
 command_result (Ok (QueryOf index queries)) files =
     option_and_then (λ bytes. with_index (index_read bytes) (λ x. option_map (query_result x) (fin.get files queries))) (fin.get files index)
+command_result (Ok (StatsOf index)) files = option_map stats_result (fin.get files index)
 
 -- what words give over files
 abbrev pub done : List (List ℕ) → FileMap → Option Done
@@ -45,6 +47,7 @@ CommandRepeats (Err fault) files = ⊥
 CommandRepeats (Ok (PilotsOf keys options)) files = IsSomeAnd (fin.get files keys) (λ bytes. HasRepeat (keys_of bytes))
 CommandRepeats (Ok (BuildOf keys index options)) files = IsSomeAnd (fin.get files keys) (λ bytes. HasRepeat (keys_of bytes))
 CommandRepeats (Ok (QueryOf index queries)) files = ⊥
+CommandRepeats (Ok (StatsOf index)) files = ⊥
 
 -- where the command is a build, its index is now the file of an index for the keys that the key file had
 abbrev pub CommandBuilds : Result CommandData WordFault → FileMap → Option FileMap → Type 0
@@ -53,3 +56,4 @@ CommandBuilds (Ok (PilotsOf keys options)) files new = Unit {0}
 CommandBuilds (Ok (BuildOf keys index options)) files new =
     IsSomeAnd (fin.get files keys) (λ bytes. IsSomeAnd (contents new index) (IsFileFor options (keys_of bytes)))
 CommandBuilds (Ok (QueryOf index queries)) files new = Unit {0}
+CommandBuilds (Ok (StatsOf index)) files new = Unit {0}

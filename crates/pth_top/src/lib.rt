@@ -10,6 +10,9 @@ mod lists;
 mod pilots;
 mod query;
 mod read;
+mod stats;
+#[cfg(test)]
+mod stats_tests;
 mod summary;
 #[cfg(test)]
 mod tests;
@@ -23,6 +26,7 @@ pub use command_words::{Command, Options, WordFault, WordsErr, read_words};
 pub use finish::show_want;
 pub use query::query_command;
 pub use settings::{Code, Encoding, How, Map, Settings, Shape};
+pub use stats::stats_command;
 pub use top::run;
 
 // The statuses.

@@ -3,12 +3,15 @@ ghost use Rattle.std.specs.Prelude.{◌≡◌, ◌+◌, ◌++◌, ◌≤◌, Lis
 ghost use Rattle.pthash.specs.declared.TheConstants.{MIN_ALPHA, MAX_ALPHA};
 ghost use Rattle.pth_top.specs.Pilots.{parts_lines};
 ghost use Rattle.pth_top.specs.Texts.{kind_name, refused_word, repeated_key, too_long, too_many};
+ghost use Rattle.pth_top.specs.Texts.{back_name, code_name, encoding_name, map_name, word_of_mark};
 ghost use Rattle.pth_top.specs.Texts.{part_lines, seed_lines, spaced};
 ghost use Rattle.pth_top.specs.Texts.{cause_line, cause_lines, same_hash_line, seeds_exhausted, stuck_line};
 
 use bucket_map::table_size;
-use command_words::{WordFault, kinds};
+use command_words::{Code, Encoding, Map, WordFault, kinds};
 use hem_build::{Built, Cause, Part};
+use hex::encode;
+use index_file::KeyMark;
 use itoa::Buffer;
 use std::alloc::{AllocError, Global};
 
@@ -219,4 +222,66 @@ pub fn repeated_key_text(alloc: Global, first: u64, second: u64) -> Result<Strin
     push_place(&mut text, " and ", second)?;
     text.push_str("\n")?;
     Ok(text)
+}
+
+// Appends a word and the two numbers of a mark, each in 16 hexadecimal digits.
+pub(crate) fn push_mark(
+    alloc: Global,
+    text: &mut String,
+    word: &str,
+    mark: KeyMark,
+) -> Result<(), AllocError>
+    ensures { OnOk result
+        (string_bytes text.new ≡ string_bytes text.old ++ word_of_mark word.now mark) }
+{
+    text.push_str(word)?;
+    text.push_str(&encode(alloc, mark.sum.to_be_bytes())?)?;
+    text.push_str(" ")?;
+    text.push_str(&encode(alloc, mark.xor.to_be_bytes())?)?;
+    Ok(())
+}
+
+// The name of a code.
+#[tactic(auto, unfolding(crate::specs::Texts::code_name))]
+fn code_text(code: Code) -> &'static str
+    ensures { result.now ≡ code_name code }
+{
+    match code {
+        Code::Compact => "c",
+        Code::Parted => "pc",
+        Code::Dict => "d",
+        Code::EliasFano => "ef",
+    }
+}
+
+// Appends the back code after a dash, if there is one.
+fn push_back(text: &mut String, back: Option<Code>) -> Result<(), AllocError>
+    ensures { OnOk result (string_bytes text.new ≡ string_bytes text.old ++ back_name back) }
+{
+    let Some(back) = back else {
+        return Ok(());
+    };
+    text.push_str("-")?;
+    text.push_str(code_text(back))?;
+    Ok(())
+}
+
+// Appends the name of an encoding.
+pub(crate) fn push_encoding(text: &mut String, enc: Encoding) -> Result<(), AllocError>
+    ensures { OnOk result (string_bytes text.new ≡ string_bytes text.old ++ encoding_name enc) }
+{
+    text.push_str(code_text(enc.front))?;
+    push_back(text, enc.back)?;
+    Ok(())
+}
+
+// The name of a map.
+#[tactic(auto, unfolding(crate::specs::Texts::map_name))]
+pub(crate) fn map_text(map: Map) -> &'static str
+    ensures { result.now ≡ map_name map }
+{
+    match map {
+        Map::Skewed => "skewed",
+        Map::Uniform => "uniform",
+    }
 }

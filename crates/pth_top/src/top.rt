@@ -14,6 +14,7 @@ use crate::build::build_command;
 use crate::finish::{show, show_want};
 use crate::pilots::pilots_command;
 use crate::query::query_command;
+use crate::stats::stats_command;
 use crate::text::refused_word_text;
 use crate::{FAILED_OUTPUT, FILE_FAULT, NO_MEMORY, REPEATED_KEY, WORDS_REFUSED};
 use command_words::{Command, WordFault, WordsErr, read_words};
@@ -110,6 +111,7 @@ fn run_words<R: Threads + Wait + Sync, F: Files, O: Sink, G: Gate>(
             },
         ) => build_command(rt, alloc, &keys, &index, &options, files, out, gate),
         Ok(Command::Query { index, queries }) => query_command(alloc, &index, &queries, files, out),
+        Ok(Command::Stats { index }) => stats_command(alloc, &index, files, out),
         Err(WordsErr::Bad(fault)) => refuse(alloc, fault, out),
         Err(WordsErr::NoMemory) => show_want(out),
     }

@@ -1,0 +1,18 @@
+-- The encodings that are tried, in their order.
+use Rattle.std.specs.Prelude.{List, ◌++◌, map, Some, None}
+use Rattle.std.specs.List.{flat_map}
+use Rattle.pilot_codecs.specs.declared.code.Code.{Code}
+use Rattle.pilot_codecs.specs.declared.code.Encoding.{Encoding}
+use Rattle.demo_index.specs.declared.codes.TheConstants.{CODES}
+
+-- a code for all pilots
+abbrev pub alone : Code → Encoding
+alone front = record { front = front; back = None }
+
+-- a code for the first pilots and one for the rest
+abbrev pub followed_by : Code → Code → Encoding
+followed_by front back = record { front = front; back = Some back }
+
+-- each code alone, then each pair, the back code changing fastest
+unfoldable pub all_encodings : List Encoding
+all_encodings = map alone CODES ++ flat_map (λ front. map (followed_by front) CODES) CODES
