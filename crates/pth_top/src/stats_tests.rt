@@ -4,8 +4,10 @@ use crate::tests::{only, texts};
 use hex::decode;
 use pth_outside::{MemFiles, MemSink};
 use std::process::Abort;
+use std::sync::Wait;
 use std::test::Fail;
 use std::thread::Threads;
+use turn_search::FreeGate;
 
 // The index with the settings by default, in the first version.
 const FIRST: &str =
@@ -38,7 +40,7 @@ const OF_UNIFORM: &str = "version 2\nseed 1\nkeys 1\nalpha 98\nc 700\nparts 1\ne
     size 3\nbuckets 7\nfree 2\nbytes 160\nmark c6a4a7935bd064dc 777defef88a7076e\nmap uniform\n";
 
 // Runs `stats` over a file I of these bytes in hex, where these calls fail, and looks at the status and the text.
-fn says<R: Abort + AllocGlobal + Threads + Sync>(
+fn says<R: Abort + AllocGlobal + Threads + Wait + Sync>(
     rt: &R,
     fails: Vec<u64>,
     index: &str,
@@ -50,7 +52,10 @@ fn says<R: Abort + AllocGlobal + Threads + Sync>(
     let mut files = MemFiles::new(rt.alloc(), fails, 100);
     files.put("I", &bytes)?;
     let mut out = MemSink::new(rt.alloc(), Vec::new(rt.alloc()));
-    assert_eq!(rt; run(rt, rt.alloc(), &words, &mut files, &mut out), status);
+    assert_eq!(rt;
+        run(rt, rt.alloc(), &words, &mut files, &mut out, &FreeGate),
+        status
+    );
     assert_eq!(rt; out.bytes(), text.as_bytes());
     assert_eq!(rt; files.get("I"), Some(bytes.as_slice()));
     Ok(())

@@ -1,0 +1,393 @@
+-- The lines of a list walked one by one.
+use Rattle.std.specs.Prelude.{◌≡◌, ℕ, zero, suc, ◌+◌, ◌<◌, ◌≤◌, ◌==◌, ◌||◌, ◌%◌}
+use Rattle.std.specs.Prelude.{◌^◌, nat_lt, Bool, true, false, cond}
+use Rattle.std.specs.Prelude.{List, [], ◌∷◌, ◌++◌, length, map, slice_set, sum_by, bit_xor, Option, Some}
+use Rattle.std.specs.Prelude.{None, IfSome, IsSomeAnd, All, option_map, replicate}
+use Rattle.std.specs.List.{position_from}
+use Rattle.std.specs.Option.{option_or, unwrap_or}
+use Rattle.std.specs.Int.Bits.{xor_assoc, xor_zero_l, xor_zero_r}
+use Rattle.std.proofs.Common.{get_or, refl, sym, ap, subst, ◌∙◌, arith, append_assoc, length-append, ⊎_elim}
+use Rattle.std.proofs.lemmas.Bool.{cases_eq, cases_lt, lt-ltb, le-ltb, eq-eqb, ne_eqb, eqb-true, and_parts}
+use Rattle.std.proofs.lemmas.List.{get_or-set_same, get_or-set_other, length-set, map-append, length-replicate, get_or-replicate}
+use Rattle.std.proofs.lemmas.List.Elements.{All-append, All-head, All-tail, All-nil, All-from_get_or}
+use Rattle.std.proofs.lemmas.List.Sums.{sum_by-append, sum_by-cons, sum_by-set}
+use Rattle.pth_outside.specs.declared.TheConstants.{LONGEST_KEY}
+use Rattle.pth_outside.specs.Keys.{is_too_long}
+use Rattle.pthash.specs.DistinctLaws.{is_distinct-append_apart}
+use Rattle.pthash.specs.Hash.{first_hash, second_hash}
+use Rattle.pthash.specs.Search.{is_among, is_distinct}
+use Rattle.build_outcome.specs.Index.{KeyMarkData, IndexData}
+use Rattle.build_outcome.specs.IndexLaws.{key_number, IsOneToOne}
+use Rattle.build_outcome.specs.Mark.{xor_of, mark_of}
+use Rattle.build_outcome.specs.Values.{pair_value, value_of}
+use Rattle.key_check.specs.declared.checked.Checked.{Checked}
+use Rattle.key_check.specs.declared.checked.Checked.TheVariants.{Good, TooLong, NoValue, Repeats, Counts, Differs}
+use Rattle.key_check.specs.declared.walk.Walk.{Walk}
+use Rattle.key_check.specs.Checked.{is_number, first_with, fault_of_value, fault_of_line, is_same_mark, compared, after_all, checked_from, checked}
+use Rattle.key_check.specs.Walks.{one_if_some, marked_by, IsFor, HasWalked}
+use Rattle.key_check.specs.Meaning.{IsGood}
+
+-- the value of a line from its hashes
+pub value_of-pair : (x : IndexData) (line : List ℕ) (seed a b : ℕ) → seed ≡ x.seed → a ≡ first_hash line seed → b ≡ second_hash line seed →
+    pair_value x a b ≡ value_of x line
+unfolding value_of
+value_of-pair x line seed a b same first second =
+    let here : a ≡ first_hash line x.seed = first ∙ ap (first_hash line) same in
+    let there : b ≡ second_hash line x.seed = second ∙ ap (second_hash line) same in
+    λ i. pair_value x (here i) (there i)
+
+-- a position counted from i on is i at least
+position_from-low : (test : List ℕ → Bool) (i : ℕ) (xs : List (List ℕ)) (e : ℕ) → position_from test i xs ≡ Some e → i ≤ e
+position_from-low test i [] e is = absurd cc
+position_from-low test i (x ∷ xs) e is =
+    elim (test x) as (λ b. cond b (Some i) (position_from test (i + 1) xs) ≡ Some e → i ≤ e) [
+      | true ↦ λ here. let same : i ≡ e = cc in omega arith
+      | false ↦ λ later. let low = position_from-low test (i + 1) xs e later in omega arith
+    ] is
+
+-- the first position with one element more at the end
+position_from-push : (test : List ℕ → Bool) (i : ℕ) (xs : List (List ℕ)) (x : List ℕ) →
+    position_from test i (xs ++ x ∷ []) ≡ option_or (position_from test i xs) (cond (test x) (Some (i + length xs)) None)
+position_from-push test i [] x = let same : i ≡ i + 0 = omega arith in ap (λ n. cond (test x) (Some n) None) same
+position_from-push test i (y ∷ ys) x =
+    let same : i + 1 + length ys ≡ i + suc (length ys) = omega arith in
+    elim (test y) as (λ b. cond b (Some i) (position_from test (i + 1) (ys ++ x ∷ []))
+    ≡ option_or (cond b (Some i) (position_from test (i + 1) ys)) (cond (test x) (Some (i + suc (length ys))) None)) [
+      | true ↦ refl
+      | false ↦ position_from-push test (i + 1) ys x ∙ ap (λ n. option_or (position_from test (i + 1) ys) (cond (test x) (Some n) None)) same
+    ]
+
+-- an entry that is 0 is that of no line
+no_entry : (o : Option ℕ) → 0 ≡ unwrap_or o 0 → ((e : ℕ) → o ≡ Some e → 1 ≤ e) → o ≡ None
+no_entry None is some = refl
+no_entry (Some e) is some = let low = some e refl in absurd (omega arith)
+
+-- an entry that isn't 0 is that of a line
+pub some_entry : (o : Option ℕ) (e : ℕ) → e ≡ unwrap_or o 0 → (e ≡ 0 → ⊥) → o ≡ Some e
+some_entry None e is other = absurd (other is)
+some_entry (Some k) e is other = ap Some (sym is)
+
+-- no line has the value whose entry is 0
+pub first_with-none : (x : IndexData) (v : ℕ) (before : List (List ℕ)) → 0 ≡ unwrap_or (first_with x v before) 0 → first_with x v before ≡ None
+first_with-none x v before is =
+    no_entry (first_with x v before) is (position_from-low (λ line. is_number v (value_of x line)) 1 before)
+
+-- the first line with a value, with one line more that has it
+first_with-here : (x : IndexData) (v : ℕ) (before : List (List ℕ)) (line : List ℕ) → value_of x line ≡ Some v → first_with x v before ≡ None →
+    first_with x v (before ++ line ∷ []) ≡ Some (1 + length before)
+first_with-here x v before line has none =
+    position_from-push (λ line. is_number v (value_of x line)) 1 before line
+    ∙ ap (λ o. option_or o (cond (is_number v (value_of x line)) (Some (1 + length before)) None)) none
+    ∙ ap (λ o. cond (is_number v o) (Some (1 + length before)) None) has
+    ∙ ap (λ b. cond b (Some (1 + length before)) None) (eq-eqb v v refl)
+
+-- nothing or another
+or_none : (o : Option ℕ) → option_or o None ≡ o
+or_none None = refl
+or_none (Some e) = refl
+
+-- the first line with another value stays
+first_with-other : (x : IndexData) (v w : ℕ) (before : List (List ℕ)) (line : List ℕ) → value_of x line ≡ Some v → (v ≡ w → ⊥) →
+    first_with x w (before ++ line ∷ []) ≡ first_with x w before
+first_with-other x v w before line has other =
+    position_from-push (λ line. is_number w (value_of x line)) 1 before line
+    ∙ ap (λ o. option_or (first_with x w before) (cond (is_number w o) (Some (1 + length before)) None)) has
+    ∙ ap (λ b. option_or (first_with x w before) (cond b (Some (1 + length before)) None)) (ne_eqb v w other)
+    ∙ or_none (first_with x w before)
+
+-- the entries with one line more
+entries_more : (x : IndexData) (before : List (List ℕ)) (line : List ℕ) (v number : ℕ) (numbers : List ℕ) → value_of x line ≡ Some v →
+    v < length numbers → get_or numbers v 0 ≡ 0 → number ≡ 1 + length before →
+    ((w : ℕ) → w < length numbers → get_or numbers w 0 ≡ unwrap_or (first_with x w before) 0) →
+    (w : ℕ) → w < length (slice_set numbers v number) → get_or (slice_set numbers v number) w 0 ≡ unwrap_or (first_with x w (before ++ line ∷ [])) 0
+entries_more x before line v number numbers has within free counted first w inside =
+    let here : w < length numbers = omega (arith, length-set numbers v number) in
+    let none : first_with x v before ≡ None = first_with-none x v before (sym free ∙ first v within) in
+    ⊎_elim
+    (λ (same : v ≡ w).
+    subst (λ k. get_or (slice_set numbers v number) k 0 ≡ unwrap_or (first_with x k (before ++ line ∷ [])) 0) same
+    (get_or-set_same numbers v number 0 within ∙ counted ∙ ap (λ o. unwrap_or o 0) (sym (first_with-here x v before line has none))))
+    (λ (other : v ≡ w → ⊥).
+    get_or-set_other numbers v w number 0 (λ e. other (sym e)) ∙ first w here
+    ∙ ap (λ o. unwrap_or o 0) (sym (first_with-other x v w before line has other)))
+    (cases_eq v w)
+
+-- the xor with one line more
+xor_more : (lines : List (List ℕ)) (line : List ℕ) (seed : ℕ) →
+    xor_of (lines ++ line ∷ []) seed ≡ bit_xor (xor_of lines seed) (second_hash line seed)
+xor_more [] line seed = xor_zero_r (second_hash line seed) ∙ sym (xor_zero_l (second_hash line seed))
+xor_more (l ∷ lines) line seed =
+    ap (bit_xor (second_hash l seed)) (xor_more lines line seed) ∙ sym (xor_assoc (second_hash l seed) (xor_of lines seed) (second_hash line seed))
+
+-- the sum with one line more
+sum_more : (lines : List (List ℕ)) (line : List ℕ) (seed sum a : ℕ) → a ≡ first_hash line seed →
+    sum ≡ sum_by (λ l. first_hash l seed) lines % 2 ^ 64 → (sum + a) % 2 ^ 64 ≡ sum_by (λ l. first_hash l seed) (lines ++ line ∷ []) % 2 ^ 64
+sum_more lines line seed sum a is so_far =
+    let f : List ℕ → ℕ = λ l. first_hash l seed in
+    omega (arith, sum_by-append f lines (line ∷ []), sum_by-cons f line [])
+
+-- the mark with one line more
+mark_more : (lines : List (List ℕ)) (line : List ℕ) (seed a b : ℕ) → a ≡ first_hash line seed → b ≡ second_hash line seed →
+    marked_by (mark_of lines seed) a b ≡ mark_of (lines ++ line ∷ []) seed
+unfolding mark_of
+mark_more lines line seed a b first second =
+    let sum = sum_more lines line seed (sum_by (λ l. first_hash l seed) lines % 2 ^ 64) a first refl in
+    let xor : bit_xor (xor_of lines seed) b ≡ xor_of (lines ++ line ∷ []) seed =
+    ap (bit_xor (xor_of lines seed)) second ∙ sym (xor_more lines line seed) in
+    λ i. record { sum = sum i; xor = xor i }
+
+-- the mark of no line
+mark_none : (seed : ℕ) → record { sum = 0; xor = 0 } ≡ mark_of [] seed
+unfolding mark_of
+mark_none seed = refl
+
+-- a walk of one line more
+pub walked_more : (x : IndexData) (before : List (List ℕ)) (line : List ℕ) (old new : Walk) (v number a b : ℕ) → HasWalked x before old →
+    value_of x line ≡ Some v → v < length old.numbers.items → get_or old.numbers.items v 0 ≡ 0 → number ≡ old.lines + 1 →
+    a ≡ first_hash line x.seed → b ≡ second_hash line x.seed →
+    new.numbers.items ≡ slice_set old.numbers.items v number → new.lines ≡ number → new.mark ≡ marked_by old.mark a b →
+    HasWalked x (before ++ line ∷ []) new
+walked_more x before line old new v number a b walked has within free is first second numbers lines mark = record {
+  count = omega (arith, walked.count, lines, is, length-append before (line ∷ []));
+  first = λ w inside.
+      subst (λ (ns : List ℕ). w < length ns → get_or ns w 0 ≡ unwrap_or (first_with x w (before ++ line ∷ [])) 0) (sym numbers)
+      (entries_more x before line v number old.numbers.items has within free (omega (arith, walked.count, is)) walked.first w) inside;
+  mark = mark ∙ ap (λ m. marked_by m a b) walked.mark ∙ mark_more before line x.seed a b first second;
+}
+
+-- one for a number of a line is one at most
+one-le : (n : ℕ) → one_if_some n ≤ 1
+one-le n = elim (n == 0) as (λ b. cond b 0 1 ≤ 1) [ true ↦ omega arith | false ↦ omega arith ]
+
+-- one for each number of a line makes no more than there are numbers
+filled-le : (numbers : List ℕ) → sum_by one_if_some numbers ≤ length numbers
+filled-le [] = omega arith
+filled-le (n ∷ numbers) = omega (arith, sum_by-cons one_if_some n numbers, filled-le numbers, one-le n)
+
+-- so there are no more lines than values
+pub lines-le : (x : IndexData) (walk : Walk) → IsFor x walk → walk.lines ≤ x.n
+lines-le x walk for = omega (arith, for.filled, for.size, filled-le walk.numbers.items)
+
+-- zeros add up to zero
+filled-zeros : (n : ℕ) → sum_by one_if_some (replicate n 0) ≡ 0
+filled-zeros zero = refl
+filled-zeros (suc n) = omega (arith, sum_by-cons one_if_some 0 (replicate n 0), filled-zeros n)
+
+-- a walk with zeros and no line is for the index
+pub for_none : (x : IndexData) (walk : Walk) → walk.seed ≡ x.seed → walk.numbers.items ≡ replicate x.n 0 → walk.lines ≡ 0 → IsFor x walk
+for_none x walk seed zeros none = record {
+  seed = seed;
+  size = ap length zeros ∙ length-replicate x.n 0;
+  filled = ap (sum_by one_if_some) zeros ∙ filled-zeros x.n ∙ sym none;
+  few = omega arith;
+}
+
+-- it has gone over no line
+pub walked_none : (x : IndexData) (walk : Walk) → walk.numbers.items ≡ replicate x.n 0 → walk.lines ≡ 0 →
+    walk.mark ≡ record { sum = 0; xor = 0 } → HasWalked x [] walk
+walked_none x walk zeros none mark = record {
+  count = none;
+  first = λ v within.
+      let inside : v < x.n = omega (arith, ap length zeros, length-replicate {A = ℕ} x.n 0) in
+      ap (λ (ns : List ℕ). get_or ns v 0) zeros ∙ get_or-replicate x.n v 0 0 inside;
+  mark = mark ∙ mark_none x.seed;
+}
+
+-- the walk is for the index after one line more, too
+pub for_more : (x : IndexData) (old new : Walk) (v number : ℕ) → IsFor x old → x.n ≤ 67108864 → v < length old.numbers.items →
+    get_or old.numbers.items v 0 ≡ 0 → number ≡ old.lines + 1 → new.numbers.items ≡ slice_set old.numbers.items v number →
+    new.lines ≡ number → new.seed ≡ old.seed → IsFor x new
+for_more x old new v number for few within free is numbers lines seed =
+    let sums = sum_by-set one_if_some old.numbers.items v number 0 within in
+    let none : one_if_some (get_or old.numbers.items v 0) ≡ 0 = ap one_if_some free in
+    let one : one_if_some number ≡ 1 = ap (λ b. cond b 0 1) (ne_eqb number 0 (λ e. omega arith)) in
+    let filled : sum_by one_if_some new.numbers.items ≡ number = omega (arith, ap (sum_by one_if_some) numbers, for.filled) in
+    let size : length new.numbers.items ≡ x.n = ap length numbers ∙ length-set old.numbers.items v number ∙ for.size in
+    record {
+      seed = seed ∙ for.seed;
+      size = size;
+      filled = filled ∙ sym lines;
+      few = omega (arith, filled-le new.numbers.items);
+    }
+
+-- the lines that were walked were not the end of the check
+pub HasPassed : IndexData → List (List ℕ) → Type 0
+HasPassed x before = (left : List (List ℕ)) → checked x (before ++ left) ≡ checked_from x before left
+
+-- no line was walked
+pub HasPassed-none : (x : IndexData) → HasPassed x []
+unfolding HasPassed checked
+HasPassed-none x left = refl
+
+-- so the check goes on behind them
+pub passed_to : (x : IndexData) (before left : List (List ℕ)) → HasPassed x before → checked x (before ++ left) ≡ checked_from x before left
+unfolding HasPassed
+passed_to x before left passed = passed left
+
+-- a line is no longer than a key may be
+short_line : (line : List ℕ) → length line ≤ LONGEST_KEY → is_too_long line ≡ false
+short_line line fits = le-ltb LONGEST_KEY (length line) fits
+
+-- a short line ends the check by its value
+fault_of_short : (x : IndexData) (before : List (List ℕ)) (line : List ℕ) → length line ≤ LONGEST_KEY →
+    fault_of_line x before line ≡ fault_of_value x before (value_of x line)
+fault_of_short x before line fits =
+    ap (λ b. cond b (Some (TooLong (length before + 1))) (fault_of_value x before (value_of x line))) (short_line line fits)
+
+-- one line more that is not the end
+pub HasPassed-more : (x : IndexData) (before : List (List ℕ)) (line : List ℕ) → HasPassed x before → length line ≤ LONGEST_KEY →
+    fault_of_value x before (value_of x line) ≡ None → HasPassed x (before ++ line ∷ [])
+unfolding HasPassed
+HasPassed-more x before line passed fits none left =
+    ap (checked x) (append_assoc before (line ∷ []) left) ∙ passed (line ∷ left)
+    ∙ ap (λ o. unwrap_or o (checked_from x (before ++ line ∷ []) left)) (fault_of_short x before line fits ∙ none)
+
+-- a line that is the end
+pub checked-fault : (x : IndexData) (before : List (List ℕ)) (line : List ℕ) (left : List (List ℕ)) (found : Checked) → HasPassed x before →
+    length line ≤ LONGEST_KEY → fault_of_value x before (value_of x line) ≡ Some found → checked x (before ++ line ∷ left) ≡ found
+unfolding HasPassed
+checked-fault x before line left found passed fits is =
+    passed (line ∷ left)
+    ∙ ap (λ o. unwrap_or o (checked_from x (before ++ line ∷ []) left)) (fault_of_short x before line fits ∙ is)
+
+-- a value that no line has is not among their values
+not_among : (x : IndexData) (v : ℕ) (before : List (List ℕ)) (i : ℕ) →
+    All (λ key. IsSomeAnd (value_of x key) (λ value. value < x.n)) before →
+    position_from (λ line. is_number v (value_of x line)) i before ≡ None → is_among (map (key_number x) before) v ≡ false
+not_among x v [] i all none = refl
+not_among x v (line ∷ before) i all none =
+    by_value (value_of x line) refl (All-head P line before all) (not_among x v before (i + 1) (All-tail P line before all))
+  where
+    P : List ℕ → Type 0
+    P key = IsSomeAnd (value_of x key) (λ value. value < x.n)
+
+    rest : List ℕ
+    rest = map (key_number x) before
+
+    later : Option ℕ
+    later = position_from (λ line. is_number v (value_of x line)) (i + 1) before
+
+    by_value : (o : Option ℕ) → value_of x line ≡ o → IsSomeAnd o (λ value. value < x.n) → (later ≡ None → is_among rest v ≡ false) →
+        is_among (key_number x line ∷ rest) v ≡ false
+    by_value None is there absent = absurd there
+    by_value (Some w) is there absent =
+        let test : is_number v (value_of x line) ≡ (w == v) = ap (is_number v) is in
+        let number : key_number x line ≡ w = ap (λ o. unwrap_or o 0) is in
+        elim (w == v) as (λ b. (w == v) ≡ b → is_among (key_number x line ∷ rest) v ≡ false) [
+          | true ↦ λ same.
+              let first : Some i ≡ None = sym (ap (λ b. cond b (Some i) later) (test ∙ same)) ∙ none in
+              absurd cc
+          | false ↦ λ other.
+              let here : later ≡ None = sym (ap (λ b. cond b (Some i) later) (test ∙ other)) ∙ none in
+              ap (λ k. (k == v) || is_among rest v) number ∙ ap (λ b. b || is_among rest v) other ∙ absent here
+        ] refl
+
+-- no line is one-to-one
+pub one_to_one-none : (x : IndexData) → IsOneToOne x []
+one_to_one-none x = record { below = All-nil (λ key. IsSomeAnd (value_of x key) (λ value. value < x.n)); distinct = refl }
+
+-- one line more, with a value that no line before has
+pub one_to_one-more : (x : IndexData) (before : List (List ℕ)) (line : List ℕ) (v : ℕ) → IsOneToOne x before → value_of x line ≡ Some v →
+    v < x.n →
+    first_with x v before ≡ None → IsOneToOne x (before ++ line ∷ [])
+one_to_one-more x before line v so_far has below none =
+    let P : List ℕ → Type 0 = λ key. IsSomeAnd (value_of x key) (λ value. value < x.n) in
+    let here : P line = subst (λ o. IsSomeAnd o (λ value. value < x.n)) (sym has) below in
+    let values : List ℕ = map (key_number x) before in
+    let number : key_number x line ≡ v = ap (λ o. unwrap_or o 0) has in
+    let absent : is_among values (key_number x line) ≡ false = ap (is_among values) number ∙ not_among x v before 1 so_far.below none in
+    record {
+      below = All-append P before (line ∷ []) so_far.below
+          (All-from_get_or P (line ∷ []) [] (λ i within. let first : 0 ≡ i = omega arith in subst (λ k. P (get_or (line ∷ []) k [])) first here));
+      distinct = ap is_distinct (map-append (key_number x) before (line ∷ []))
+          ∙ is_distinct-append_apart values (key_number x line ∷ []) so_far.distinct refl
+          (λ y among.
+          elim (key_number x line == y) as (λ b. (key_number x line == y) ≡ b → (b || false) ≡ false) [
+            | true ↦ λ same.
+                let both : is_among values y ≡ false = ap (is_among values) (sym (eqb-true (key_number x line) y same)) ∙ absent in
+                absurd cc
+            | false ↦ λ other. refl
+          ] refl);
+    }
+
+-- marks that pass the test are the same
+same_mark : (kept counted : KeyMarkData) → is_same_mark kept counted ≡ true → kept ≡ counted
+same_mark kept counted same =
+    let parts = and_parts (kept.sum == counted.sum) (kept.xor == counted.xor) same in
+    let sum = eqb-true kept.sum counted.sum parts.0 in
+    let xor = eqb-true kept.xor counted.xor parts.1 in
+    λ i. record { sum = sum i; xor = xor i }
+
+-- where the marks come to a good end, the index keeps no other
+compared-good : (kept : Option KeyMarkData) (counted mark : KeyMarkData) → compared kept counted ≡ Good mark →
+    (mark ≡ counted) × IfSome kept (λ k. k ≡ mark)
+compared-good None counted mark is = let same : mark ≡ counted = cc in (same, tt)
+compared-good (Some k) counted mark is = by_test (is_same_mark k counted) refl is
+  where
+    by_test : (t : Bool) → is_same_mark k counted ≡ t → cond t (Good counted) (Differs k counted) ≡ Good mark → (mark ≡ counted) × (k ≡ mark)
+    by_test true same good = let counted_is : mark ≡ counted = cc in (counted_is, same_mark k counted same ∙ sym counted_is)
+    by_test false other good = absurd cc
+
+-- a check that ends well after the last line
+pub good_end : (x : IndexData) (lines : List (List ℕ)) (mark : KeyMarkData) → IsOneToOne x lines → length lines ≤ x.n →
+    after_all x lines ≡ Good mark → IsGood x lines mark
+good_end x lines mark one few is = by_count (nat_lt (length lines) x.n) refl is
+  where
+    by_count : (t : Bool) → nat_lt (length lines) x.n ≡ t →
+        cond t (Counts x.n (length lines)) (compared x.mark (mark_of lines x.seed)) ≡ Good mark → IsGood x lines mark
+    by_count true less good = absurd cc
+    by_count false enough good =
+        let ends = compared-good x.mark (mark_of lines x.seed) mark good in
+        let all : x.n ≤ length lines =
+        ⊎_elim
+        (λ (less : length lines < x.n). let test = lt-ltb (length lines) x.n less in absurd cc)
+        (λ (more : x.n ≤ length lines). more)
+        (cases_lt (length lines) x.n) in
+        record { one_to_one = one; all = omega arith; marked = ends.0; kept = ends.1 }
+
+-- no line before its end makes a check good
+pub fault-good : (x : IndexData) (before : List (List ℕ)) (value : Option ℕ) (mark : KeyMarkData) →
+    fault_of_value x before value ≡ Some (Good mark) → ⊥
+fault-good x before None mark is = absurd cc
+fault-good x before (Some v) mark is = by_first (first_with x v before) is
+  where
+    by_first : (o : Option ℕ) → option_map (λ earlier. Repeats (length before + 1) earlier) o ≡ Some (Good mark) → ⊥
+    by_first None is = absurd cc
+    by_first (Some e) is = absurd cc
+
+-- what is read inside a list doesn't depend on what is read outside
+pub same_inside : (xs : List ℕ) (i d e : ℕ) → i < length xs → get_or xs i d ≡ get_or xs i e
+same_inside [] i d e within = absurd (omega arith)
+same_inside (x ∷ xs) zero d e within = refl
+same_inside (x ∷ xs) (suc i) d e within = same_inside xs i d e (omega arith)
+
+-- a line without a value ends the check
+pub no_value_here : (x : IndexData) (before : List (List ℕ)) (line : List ℕ) (walk : Walk) → HasWalked x before walk → value_of x line ≡ None →
+    Some (NoValue (walk.lines + 1)) ≡ fault_of_value x before (value_of x line)
+no_value_here x before line walk walked none = ap (λ n. Some (NoValue (n + 1))) walked.count ∙ ap (fault_of_value x before) (sym none)
+
+-- a line with the value of an earlier one ends the check
+pub repeat_here : (x : IndexData) (before : List (List ℕ)) (line : List ℕ) (walk : Walk) (v e : ℕ) → HasWalked x before walk →
+    value_of x line ≡ Some v →
+    v < length walk.numbers.items → e ≡ get_or walk.numbers.items v 0 → (e ≡ 0 → ⊥) →
+    Some (Repeats (walk.lines + 1) e) ≡ fault_of_value x before (value_of x line)
+repeat_here x before line walk v e walked has within is other =
+    let some : first_with x v before ≡ Some e = some_entry (first_with x v before) e (is ∙ walked.first v within) other in
+    ap (λ n. Some (Repeats (n + 1) e)) walked.count
+    ∙ ap (option_map (λ earlier. Repeats (length before + 1) earlier)) (sym some) ∙ ap (fault_of_value x before) (sym has)
+
+-- a line with a value of its own doesn't
+pub own_here : (x : IndexData) (before : List (List ℕ)) (line : List ℕ) (walk : Walk) (v : ℕ) → HasWalked x before walk →
+    value_of x line ≡ Some v →
+    v < length walk.numbers.items → get_or walk.numbers.items v 0 ≡ 0 → None ≡ fault_of_value x before (value_of x line)
+own_here x before line walk v walked has within free =
+    let none : first_with x v before ≡ None = first_with-none x v before (sym free ∙ walked.first v within) in
+    ap (option_map (λ earlier. Repeats (length before + 1) earlier)) (sym none) ∙ ap (fault_of_value x before) (sym has)
+
+-- the marks are compared where there are as many lines as keys
+pub end_is : (x : IndexData) (before : List (List ℕ)) (walk : Walk) (kept : Option KeyMarkData) → HasWalked x before walk → kept ≡ x.mark →
+    x.n ≤ walk.lines → compared kept walk.mark ≡ after_all x before
+end_is x before walk kept walked same enough =
+    let test : nat_lt (length before) x.n ≡ false = le-ltb (length before) x.n (omega (arith, walked.count)) in
+    (λ i. compared (same i) (walked.mark i))
+    ∙ sym (ap (λ b. cond b (Counts x.n (length before)) (compared x.mark (mark_of before x.seed))) test)
