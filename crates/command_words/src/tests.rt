@@ -84,7 +84,7 @@ const FAULTY: [(&str, u64, u8); 57] = [
 ];
 
 // The same of the commands on two files.
-const FAULTY_OF_TWO: [(&str, u64, u8); 18] = [
+const FAULTY_OF_TWO: [(&str, u64, u8); 22] = [
     ("build", 1, MISSING),
     ("build K", 2, MISSING),
     ("build K I alpha=49", 3, RANGE),
@@ -102,6 +102,10 @@ const FAULTY_OF_TWO: [(&str, u64, u8); 18] = [
     ("query I", 2, MISSING),
     ("query I Q x", 3, EXTRA),
     ("query I Q x y", 3, EXTRA),
+    ("check", 1, MISSING),
+    ("check I", 2, MISSING),
+    ("check I K x", 3, EXTRA),
+    ("check K I alpha=98", 3, EXTRA),
     ("Build K I", 0, COMMAND),
 ];
 

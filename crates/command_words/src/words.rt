@@ -3,7 +3,9 @@ ghost use Rattle.std.specs.Prelude.{◌≡◌, ◌+◌, ◌<◌, ◌^◌, IfOk, 
 ghost use Rattle.command_words.specs.Options.{words_of, options_data};
 ghost use Rattle.command_words.specs.Refusals.{IfBad};
 ghost use Rattle.command_words.specs.Settings.{chosen_values, nothing_given};
-ghost use Rattle.command_words.specs.Words.{command_data, name_of, command_named, command_of, pilots_of, build_of, query_of, options_in, given_by};
+ghost use Rattle.command_words.specs.Words.{command_data, name_of, command_named, command_of};
+ghost use Rattle.command_words.specs.Words.{pilots_of, build_of, query_of, check_of};
+ghost use Rattle.command_words.specs.Words.{names_data, two_names, options_in, given_by};
 
 use crate::chosen::Chosen;
 use crate::faults::{Refusal, WordFault, WordsErr};
@@ -28,6 +30,17 @@ pub enum Command {
         index: String,
         queries: String,
     },
+    Check {
+        index: String,
+        keys: String,
+    },
+}
+
+// The names of two files.
+#[derive(Drop)]
+pub(crate) struct TwoNames {
+    pub(crate) first: String,
+    pub(crate) second: String,
 }
 
 // The name of a command.
@@ -36,6 +49,7 @@ pub enum Name {
     Pilots,
     Build,
     Query,
+    Check,
 }
 
 /// The command that the words after the program's name ask for, or the first faulty word.
@@ -67,6 +81,7 @@ fn name_in(word: &str) -> Option<Name>
         "pilots" => Some(Name::Pilots),
         "build" => Some(Name::Build),
         "query" => Some(Name::Query),
+        "check" => Some(Name::Check),
         _ => None,
     }
 }
@@ -82,6 +97,7 @@ fn read_command(alloc: Global, name: Name, words: &[String]) -> Result<Command, 
         Name::Pilots => read_pilots(alloc, words),
         Name::Build => read_build(alloc, words),
         Name::Query => read_query(alloc, words),
+        Name::Check => read_check(alloc, words),
     }
 }
 
@@ -127,18 +143,42 @@ fn read_query(alloc: Global, words: &[String]) -> Result<Command, WordsErr>
     ensures ok { IfOk result (λ c. query_of (words_of words.now) ≡ Ok (command_data c)) }
     ensures bad { IfErr result (IfBad (λ fault. query_of (words_of words.now) ≡ Err fault)) }
 {
-    let Some((index, rest)) = words.split_first() else {
+    let names = read_two(alloc, words)?;
+    Ok(Command::Query {
+        index: names.first,
+        queries: names.second,
+    })
+}
+
+// The command `check`, from the words after it.
+fn read_check(alloc: Global, words: &[String]) -> Result<Command, WordsErr>
+    ensures ok { IfOk result (λ c. check_of (words_of words.now) ≡ Ok (command_data c)) }
+    ensures bad { IfErr result (IfBad (λ fault. check_of (words_of words.now) ≡ Err fault)) }
+{
+    let names = read_two(alloc, words)?;
+    Ok(Command::Check {
+        index: names.first,
+        keys: names.second,
+    })
+}
+
+// The two names that words are, with no word after them.
+fn read_two(alloc: Global, words: &[String]) -> Result<TwoNames, WordsErr>
+    ensures ok { IfOk result (λ names. two_names (words_of words.now) ≡ Ok (names_data names)) }
+    ensures bad { IfErr result (IfBad (λ fault. two_names (words_of words.now) ≡ Err fault)) }
+{
+    let Some((first, rest)) = words.split_first() else {
         return Err(bad(1, MISSING));
     };
-    let Some((queries, more)) = rest.split_first() else {
+    let Some((second, more)) = rest.split_first() else {
         return Err(bad(2, MISSING));
     };
     if !more.is_empty() {
         return Err(bad(3, EXTRA));
     }
-    let index = String::from_str(alloc, index)?;
-    let queries = String::from_str(alloc, queries)?;
-    Ok(Command::Query { index, queries })
+    let first = String::from_str(alloc, first)?;
+    let second = String::from_str(alloc, second)?;
+    Ok(TwoNames { first, second })
 }
 
 // The settings that words give, the first of them in this word.

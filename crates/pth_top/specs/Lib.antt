@@ -5,6 +5,7 @@ pub mod Lists
 pub mod Pilots
 pub mod Build
 pub mod Query
+pub mod Check
 pub mod Words
 pub mod Ending
 pub mod Finishing

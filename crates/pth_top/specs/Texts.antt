@@ -1,7 +1,10 @@
 -- The texts that the program prints. Each line ends with a line feed.
 use Rattle.std.specs.Prelude.{ℕ, ◌+◌, ◌==◌, List, [], ◌∷◌, ◌++◌, length, codes, decimal, flat_map, if◌then◌else◌}
+use Rattle.std.specs.Int.{w64, to_be_bytes}
+use Rattle.hex.specs.Hex.{encode_lower}
 use Rattle.build_outcome.specs.declared.Cause.{Cause}
 use Rattle.build_outcome.specs.declared.Cause.TheVariants.{SameHash, Stuck}
+use Rattle.build_outcome.specs.Index.{KeyMarkData}
 use Rattle.index_text.specs.declared.fault.IndexFault.{IndexFault}
 use Rattle.index_text.specs.declared.fault.IndexFault.TheVariants as faults
 use Rattle.command_words.specs.declared.kinds.TheConstants.{COMMAND, MISSING, EXTRA, NAME, REPEATED, NUMBER, RANGE}
@@ -49,6 +52,34 @@ too_many what most = line (codes "too many " ++ what ++ codes ": limit " ++ deci
 -- two lines, by their numbers from 1, hold the same key
 unfoldable pub repeated_key : ℕ → ℕ → List ℕ
 repeated_key first second = line (codes "repeated key: lines " ++ decimal first ++ codes " and " ++ decimal second)
+
+-- a line, by its number from 1, has no value
+unfoldable pub no_value : ℕ → List ℕ
+no_value number = line (codes "line " ++ decimal number ++ codes " has no value")
+
+-- a line has the value of an earlier one
+unfoldable pub repeats : ℕ → ℕ → List ℕ
+repeats number earlier = line (codes "line " ++ decimal number ++ codes " repeats line " ++ decimal earlier)
+
+-- the list has fewer lines than the index has keys
+unfoldable pub fewer : ℕ → ℕ → List ℕ
+fewer keys lines = line (codes "index has " ++ decimal keys ++ codes " keys, list has " ++ decimal lines)
+
+-- a number in 16 lower-case hexadecimal digits
+abbrev pub sixteen_digits : ℕ → List ℕ
+sixteen_digits number = encode_lower (to_be_bytes w64 number)
+
+-- the two numbers of a mark after a word
+unfoldable pub word_of_mark : List ℕ → KeyMarkData → List ℕ
+word_of_mark word mark = word ++ sixteen_digits mark.sum ++ codes " " ++ sixteen_digits mark.xor
+
+-- the list has another mark than the index keeps
+unfoldable pub differs : KeyMarkData → KeyMarkData → List ℕ
+differs kept counted = line (codes "keys differ: " ++ word_of_mark (codes "kept ") kept ++ word_of_mark (codes " counted ") counted)
+
+-- the lines map one to one onto the numbers below their count
+unfoldable pub good_keys : ℕ → List ℕ
+good_keys keys = line (codes "good " ++ decimal keys ++ codes " keys")
 
 -- each number after a space
 abbrev pub spaced : List ℕ → List ℕ

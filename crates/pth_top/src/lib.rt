@@ -3,10 +3,14 @@
 
 mod answer;
 mod build;
+mod check;
+#[cfg(test)]
+mod check_tests;
 mod finish;
 #[cfg(test)]
 mod index_tests;
 mod lists;
+mod marks;
 mod pilots;
 mod query;
 mod read;
@@ -17,6 +21,7 @@ mod text;
 mod top;
 mod values;
 
+pub use check::check_command;
 pub use command_words::{Command, Options, WordFault, WordsErr, read_words};
 pub use finish::show_want;
 pub use query::query_command;
@@ -35,6 +40,8 @@ const REPEATED_KEY: u8 = 4;
 const SEEDS_EXHAUSTED: u8 = 5;
 
 const INDEX_REFUSED: u8 = 6;
+
+const CHECK_FAILED: u8 = 7;
 
 const FAILED_OUTPUT: u8 = 8;
 

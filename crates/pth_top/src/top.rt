@@ -11,6 +11,7 @@ ghost use Rattle.pth_top.specs.Texts.{file_fault, no_memory};
 ghost use Rattle.pth_top.specs.Words.{refused, done, new_file, CommandBuilds, CommandRepeats};
 
 use crate::build::build_command;
+use crate::check::check_command;
 use crate::finish::{show, show_want};
 use crate::pilots::pilots_command;
 use crate::query::query_command;
@@ -106,6 +107,7 @@ fn run_words<R: Threads + Sync, F: Files, O: Sink>(
             },
         ) => build_command(rt, alloc, &keys, &index, &options, files, out),
         Ok(Command::Query { index, queries }) => query_command(alloc, &index, &queries, files, out),
+        Ok(Command::Check { index, keys }) => check_command(alloc, &index, &keys, files, out),
         Err(WordsErr::Bad(fault)) => refuse(alloc, fault, out),
         Err(WordsErr::NoMemory) => show_want(out),
     }
