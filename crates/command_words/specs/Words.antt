@@ -3,11 +3,11 @@ use Rattle.std.specs.Prelude.{ℕ, ◌+◌, List, [], ◌∷◌, string_bytes, c
 use Rattle.command_words.specs.declared.faults.WordFault.{WordFault}
 use Rattle.command_words.specs.declared.kinds.TheConstants.{COMMAND, MISSING, EXTRA, SAME_NAME}
 use Rattle.command_words.specs.declared.words.Command.{Command}
-use Rattle.command_words.specs.declared.words.Command.TheVariants.{Pilots, Build, Query, Check}
+use Rattle.command_words.specs.declared.words.Command.TheVariants.{Pilots, Build, Query, Check, Upgrade}
 use Rattle.command_words.specs.declared.words.Name.{Name}
 use Rattle.command_words.specs.declared.words.Name.TheVariants as name
 use Rattle.command_words.specs.declared.words.TwoNames.{TwoNames}
-use Rattle.command_words.specs.Names.{belongs_to_index}
+use Rattle.command_words.specs.Names.{belongs_to_index, own_or_tmp}
 use Rattle.command_words.specs.Options.{OptionsData, options_data}
 use Rattle.command_words.specs.Settings.{Given, nothing_given, with_word, options_of}
 
@@ -17,6 +17,7 @@ pub data CommandData : Type 0 where
   BuildOf : List ℕ → List ℕ → OptionsData → CommandData
   QueryOf : List ℕ → List ℕ → CommandData
   CheckOf : List ℕ → List ℕ → CommandData
+  UpgradeOf : List ℕ → List ℕ → CommandData
 
 -- a command as data
 abbrev pub command_data : Command → CommandData
@@ -24,6 +25,7 @@ command_data (Pilots keys options) = PilotsOf (string_bytes keys) (options_data 
 command_data (Build keys index options) = BuildOf (string_bytes keys) (string_bytes index) (options_data options)
 command_data (Query index queries) = QueryOf (string_bytes index) (string_bytes queries)
 command_data (Check index keys) = CheckOf (string_bytes index) (string_bytes keys)
+command_data (Upgrade index keys) = UpgradeOf (string_bytes index) (string_bytes keys)
 
 -- a fault of this kind in this word
 abbrev pub fault_at : ℕ → ℕ → WordFault
@@ -93,6 +95,15 @@ query_of words = with_names QueryOf (two_names words)
 abbrev pub check_of : List (List ℕ) → Result CommandData WordFault
 check_of words = with_names CheckOf (two_names words)
 
+-- the command `upgrade` on an index and a key file, unless the key file is named as the index is written
+abbrev pub unless_own : Result (List ℕ × List ℕ) WordFault → Result CommandData WordFault
+unless_own (Err fault) = Err fault
+unless_own (Ok names) = if own_or_tmp names.1 names.0 then Err (fault_at 2 SAME_NAME) else Ok (UpgradeOf names.0 names.1)
+
+-- the command `upgrade`, from the words after it: the index and the key file
+abbrev pub upgrade_of : List (List ℕ) → Result CommandData WordFault
+upgrade_of words = unless_own (two_names words)
+
 -- the name of a command that a word is
 abbrev pub name_of : List ℕ → Option Name
 name_of word =
@@ -100,6 +111,7 @@ name_of word =
     else if bytes_eq word (codes "build") then Some name.Build
     else if bytes_eq word (codes "query") then Some name.Query
     else if bytes_eq word (codes "check") then Some name.Check
+    else if bytes_eq word (codes "upgrade") then Some name.Upgrade
     else None
 
 -- the command of a name, from the words after it
@@ -109,6 +121,7 @@ command_named (Some name.Pilots) words = pilots_of words
 command_named (Some name.Build) words = build_of words
 command_named (Some name.Query) words = query_of words
 command_named (Some name.Check) words = check_of words
+command_named (Some name.Upgrade) words = upgrade_of words
 
 -- the command that the words after the program's name ask for, or the first faulty word
 unfoldable pub command_of : List (List ℕ) → Result CommandData WordFault

@@ -4,13 +4,13 @@ ghost use Rattle.command_words.specs.Options.{words_of, options_data};
 ghost use Rattle.command_words.specs.Refusals.{IfBad};
 ghost use Rattle.command_words.specs.Settings.{chosen_values, nothing_given};
 ghost use Rattle.command_words.specs.Words.{command_data, name_of, command_named, command_of};
-ghost use Rattle.command_words.specs.Words.{pilots_of, build_of, query_of, check_of};
+ghost use Rattle.command_words.specs.Words.{pilots_of, build_of, query_of, check_of, upgrade_of};
 ghost use Rattle.command_words.specs.Words.{names_data, two_names, options_in, given_by};
 
 use crate::chosen::Chosen;
 use crate::faults::{Refusal, WordFault, WordsErr};
 use crate::kinds::{COMMAND, EXTRA, MISSING, SAME_NAME};
-use crate::names::is_of_index;
+use crate::names::{is_of_index, is_own_or_tmp};
 use crate::options::Options;
 use std::alloc::Global;
 
@@ -34,6 +34,10 @@ pub enum Command {
         index: String,
         keys: String,
     },
+    Upgrade {
+        index: String,
+        keys: String,
+    },
 }
 
 // The names of two files.
@@ -50,6 +54,7 @@ pub enum Name {
     Build,
     Query,
     Check,
+    Upgrade,
 }
 
 /// The command that the words after the program's name ask for, or the first faulty word.
@@ -82,6 +87,7 @@ fn name_in(word: &str) -> Option<Name>
         "build" => Some(Name::Build),
         "query" => Some(Name::Query),
         "check" => Some(Name::Check),
+        "upgrade" => Some(Name::Upgrade),
         _ => None,
     }
 }
@@ -98,6 +104,7 @@ fn read_command(alloc: Global, name: Name, words: &[String]) -> Result<Command, 
         Name::Build => read_build(alloc, words),
         Name::Query => read_query(alloc, words),
         Name::Check => read_check(alloc, words),
+        Name::Upgrade => read_upgrade(alloc, words),
     }
 }
 
@@ -157,6 +164,21 @@ fn read_check(alloc: Global, words: &[String]) -> Result<Command, WordsErr>
 {
     let names = read_two(alloc, words)?;
     Ok(Command::Check {
+        index: names.first,
+        keys: names.second,
+    })
+}
+
+// The command `upgrade`, from the words after it.
+fn read_upgrade(alloc: Global, words: &[String]) -> Result<Command, WordsErr>
+    ensures ok { IfOk result (λ c. upgrade_of (words_of words.now) ≡ Ok (command_data c)) }
+    ensures bad { IfErr result (IfBad (λ fault. upgrade_of (words_of words.now) ≡ Err fault)) }
+{
+    let names = read_two(alloc, words)?;
+    if is_own_or_tmp(&names.second, &names.first) {
+        return Err(bad(2, SAME_NAME));
+    }
+    Ok(Command::Upgrade {
         index: names.first,
         keys: names.second,
     })

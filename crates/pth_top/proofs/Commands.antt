@@ -4,7 +4,7 @@ use Rattle.std.specs.Prelude.{IsSomeAnd, option_and_then}
 use Rattle.std.specs.FinMap as map
 use Rattle.build_outcome.specs.Index.{IndexData}
 use Rattle.command_words.specs.Options.{OptionsData}
-use Rattle.command_words.specs.Words.{PilotsOf, BuildOf, QueryOf, CheckOf}
+use Rattle.command_words.specs.Words.{PilotsOf, BuildOf, QueryOf, CheckOf, UpgradeOf}
 use Rattle.index_file.specs.Encoded.{EncodedIndex}
 use Rattle.index_text.specs.Text.{index_text, IsIndex}
 use Rattle.pth_outside.specs.Files.{FileMap, FilesState, ReadsFiles, OfFile, contents}
@@ -100,6 +100,13 @@ pub answers_check : (index keys : List ℕ) (answer : Result Answer Stop) (old n
     ReadsFiles old new (IsErrOf answer Fault) (IfSome old.told (λ m. command_result (Ok (CheckOf index keys)) m ≡ None)) →
     Answers (Ok (CheckOf index keys)) answer old new
 answers_check index keys answer old new done reads = record { done = done; builds = nothing_built answer old.told; reads = reads }
+
+-- the answer of `upgrade`
+pub answers_upgrade : (index keys : List ℕ) (answer : Result Answer Stop) (old new : FilesState) →
+    IfOk answer (λ a. IfSome old.told (λ m. command_result (Ok (UpgradeOf index keys)) m ≡ Some (done_of a))) →
+    ReadsFiles old new (IsErrOf answer Fault) (IfSome old.told (λ m. command_result (Ok (UpgradeOf index keys)) m ≡ None)) →
+    Answers (Ok (UpgradeOf index keys)) answer old new
+answers_upgrade index keys answer old new done reads = record { done = done; builds = nothing_built answer old.told; reads = reads }
 
 -- the file of an index that was built
 pub file_of_built : (name : List ℕ) (o : OptionsData) (keys : List (List ℕ)) (x : IndexData) (d : Done) → d ≡ index_file_of name o.enc x →

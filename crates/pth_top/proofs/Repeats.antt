@@ -3,12 +3,12 @@ use Rattle.std.proofs.Common.{◌≡◌, ℕ, true, false, cond, List, [], ◌�
 use Rattle.std.proofs.Common.{Some, None, Result, Ok, Err, IfSome, option_map, refl, ap, ◌∙◌, arith}
 use Rattle.std.specs.Prelude.{IsSomeAnd, nat_lt, codes, option_and_then}
 use Rattle.std.specs.FinMap as map
-use Rattle.build_outcome.specs.Index.{IndexData}
+use Rattle.build_outcome.specs.Index.{KeyMarkData, IndexData}
 use Rattle.build_outcome.specs.Outcome.{Outcome, repeated, exhausted, built, outcome_of}
 use Rattle.build_outcome.specs.OutcomeLaws.{repeated_key}
 use Rattle.command_words.specs.declared.faults.WordFault.{WordFault}
 use Rattle.command_words.specs.Options.{OptionsData}
-use Rattle.command_words.specs.Words.{CommandData, PilotsOf, BuildOf, QueryOf, CheckOf}
+use Rattle.command_words.specs.Words.{CommandData, PilotsOf, BuildOf, QueryOf, CheckOf, UpgradeOf}
 use Rattle.hem_build.specs.Rules.{rules_of}
 use Rattle.index_file.specs.Encoded.{EncodedIndex}
 use Rattle.index_text.specs.declared.fault.IndexFault.{IndexFault}
@@ -26,6 +26,7 @@ use Rattle.pth_top.specs.Build.{build_result, index_file_of}
 use Rattle.pth_top.specs.Check.{check_result, good_result, mark_found}
 use Rattle.pth_top.specs.Pilots.{pilots_result, pilots_of_index}
 use Rattle.pth_top.specs.Query.{faulty_result, index_read, unless_faulty, query_result, values_of}
+use Rattle.pth_top.specs.Upgrade.{upgraded_from, upgrade_result}
 use Rattle.pth_top.specs.Words.{command_result, with_index, CommandRepeats}
 
 -- an outcome with this status
@@ -103,6 +104,26 @@ not_of_found index (Differs kept counted) status = omega arith
 not_of_checked : (index : EncodedIndex) (bytes : List ℕ) → (check_result index bytes).status ≡ REPEATED_KEY → ⊥
 not_of_checked index bytes status = not_of_found index (checked index.index (keys_of bytes)) status
 
+-- nor does an upgrade of an index, with or without a mark
+not_of_upgraded : (name : List ℕ) (index : EncodedIndex) (kept : Option KeyMarkData) (mark : KeyMarkData) →
+    (upgraded_from name index kept mark).status ≡ REPEATED_KEY → ⊥
+not_of_upgraded name index (Some kept) mark status = omega arith
+not_of_upgraded name index None mark status = omega arith
+
+-- nor by what a check came to
+not_of_upgrade_found : (name : List ℕ) (index : EncodedIndex) (found : Checked) →
+    (gives (mark_found found) (upgraded_from name index index.index.mark)).status ≡ REPEATED_KEY → ⊥
+not_of_upgrade_found name index (Good mark) status = not_of_upgraded name index index.index.mark mark status
+not_of_upgrade_found name index (TooLong line) status = omega arith
+not_of_upgrade_found name index (NoValue line) status = omega arith
+not_of_upgrade_found name index (Repeats line earlier) status = omega arith
+not_of_upgrade_found name index (Counts n lines) status = omega arith
+not_of_upgrade_found name index (Differs kept counted) status = omega arith
+
+-- nor by a file of lines
+not_of_upgrade : (name : List ℕ) (index : EncodedIndex) (bytes : List ℕ) → (upgrade_result name index bytes).status ≡ REPEATED_KEY → ⊥
+not_of_upgrade name index bytes status = not_of_upgrade_found name index (checked index.index (keys_of bytes)) status
+
 -- nor does a second file whose bytes never have it
 not_of_second : (give : EncodedIndex → List ℕ → Done) → ((x : EncodedIndex) (bytes : List ℕ) → (give x bytes).status ≡ REPEATED_KEY → ⊥) →
     (index : EncodedIndex) (found : Option (List ℕ)) (d : Done) → option_map (give index) found ≡ Some d → d.status ≡ REPEATED_KEY → ⊥
@@ -137,6 +158,8 @@ of_command (Ok (QueryOf index queries)) m d is status =
     absurd (not_of_files query_result not_of_queries (map.get m index) (map.get m queries) d is status)
 of_command (Ok (CheckOf index keys)) m d is status =
     absurd (not_of_files check_result not_of_checked (map.get m index) (map.get m keys) d is status)
+of_command (Ok (UpgradeOf index keys)) m d is status =
+    absurd (not_of_files (upgrade_result index) (not_of_upgrade index) (map.get m index) (map.get m keys) d is status)
 
 -- a command over files that tell
 pub command_repeats : (command : Result CommandData WordFault) (told : Option FileMap) (d : Done) →

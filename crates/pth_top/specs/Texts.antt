@@ -129,6 +129,14 @@ summary keys seed size bytes =
     line (codes "built keys " ++ decimal keys ++ codes " seed " ++ decimal seed ++ codes " size " ++ decimal size
     ++ codes " bytes " ++ decimal bytes)
 
+-- the mark was written: how many keys the index has, and the length of its file
+unfoldable pub upgraded : ℕ → ℕ → List ℕ
+upgraded keys bytes = line (codes "upgraded " ++ decimal keys ++ codes " keys bytes " ++ decimal bytes)
+
+-- the index has a mark
+abbrev pub already_marked : List ℕ
+already_marked = codes "already version 2\n"
+
 -- two numbers after a word
 unfoldable pub word_of_two : List ℕ → ℕ → ℕ → List ℕ
 word_of_two word first second = word ++ decimal first ++ codes " " ++ decimal second

@@ -2,7 +2,7 @@
 use Rattle.std.specs.Prelude.{ℕ, List, Option, Some, Result, Ok, Err, IsSomeAnd, option_map, option_and_then}
 use Rattle.std.specs.FinMap as fin
 use Rattle.command_words.specs.declared.faults.WordFault.{WordFault}
-use Rattle.command_words.specs.Words.{CommandData, PilotsOf, BuildOf, QueryOf, CheckOf, command_of}
+use Rattle.command_words.specs.Words.{CommandData, PilotsOf, BuildOf, QueryOf, CheckOf, UpgradeOf, command_of}
 use Rattle.index_file.specs.Encoded.{EncodedIndex}
 use Rattle.pth_outside.specs.Files.{FileMap, contents}
 use Rattle.pth_outside.specs.Keys.{keys_of}
@@ -14,6 +14,7 @@ use Rattle.pth_top.specs.Pilots.{pilots_result}
 use Rattle.pth_top.specs.Check.{check_result}
 use Rattle.pth_top.specs.Query.{index_read, query_result}
 use Rattle.pth_top.specs.Texts.{refused_word}
+use Rattle.pth_top.specs.Upgrade.{upgrade_result}
 
 -- the answer to words with this fault
 abbrev pub refused : WordFault → Done
@@ -36,6 +37,7 @@ command_result (Ok (PilotsOf keys options)) files = option_map (pilots_result op
 command_result (Ok (BuildOf keys index options)) files = option_map (build_result index options) (fin.get files keys)
 command_result (Ok (QueryOf index queries)) files = over_index files index queries query_result
 command_result (Ok (CheckOf index keys)) files = over_index files index keys check_result
+command_result (Ok (UpgradeOf index keys)) files = over_index files index keys (upgrade_result index)
 
 -- what words give over files
 abbrev pub done : List (List ℕ) → FileMap → Option Done
@@ -52,6 +54,7 @@ CommandRepeats (Ok (PilotsOf keys options)) files = IsSomeAnd (fin.get files key
 CommandRepeats (Ok (BuildOf keys index options)) files = IsSomeAnd (fin.get files keys) (λ bytes. HasRepeat (keys_of bytes))
 CommandRepeats (Ok (QueryOf index queries)) files = ⊥
 CommandRepeats (Ok (CheckOf index keys)) files = ⊥
+CommandRepeats (Ok (UpgradeOf index keys)) files = ⊥
 
 -- where the command is a build, its index is now the file of an index for the keys that the key file had
 abbrev pub CommandBuilds : Result CommandData WordFault → FileMap → Option FileMap → Type 0
@@ -61,3 +64,4 @@ CommandBuilds (Ok (BuildOf keys index options)) files new =
     IsSomeAnd (fin.get files keys) (λ bytes. IsSomeAnd (contents new index) (IsFileFor options (keys_of bytes)))
 CommandBuilds (Ok (QueryOf index queries)) files new = Unit {0}
 CommandBuilds (Ok (CheckOf index keys)) files new = Unit {0}
+CommandBuilds (Ok (UpgradeOf index keys)) files new = Unit {0}

@@ -19,6 +19,9 @@ mod summary;
 mod tests;
 mod text;
 mod top;
+mod upgrade;
+#[cfg(test)]
+mod upgrade_tests;
 mod values;
 
 pub use check::check_command;
@@ -27,6 +30,7 @@ pub use finish::show_want;
 pub use query::query_command;
 pub use settings::{Code, Encoding, How, Map, Settings, Shape};
 pub use top::run;
+pub use upgrade::upgrade_command;
 
 // The statuses.
 const WORDS_REFUSED: u8 = 1;

@@ -16,6 +16,7 @@ use crate::finish::{show, show_want};
 use crate::pilots::pilots_command;
 use crate::query::query_command;
 use crate::text::refused_word_text;
+use crate::upgrade::upgrade_command;
 use crate::{FAILED_OUTPUT, FILE_FAULT, NO_MEMORY, REPEATED_KEY, WORDS_REFUSED};
 use command_words::{Command, WordFault, WordsErr, read_words};
 use pth_outside::{Files, Sink};
@@ -108,6 +109,7 @@ fn run_words<R: Threads + Sync, F: Files, O: Sink>(
         ) => build_command(rt, alloc, &keys, &index, &options, files, out),
         Ok(Command::Query { index, queries }) => query_command(alloc, &index, &queries, files, out),
         Ok(Command::Check { index, keys }) => check_command(alloc, &index, &keys, files, out),
+        Ok(Command::Upgrade { index, keys }) => upgrade_command(alloc, &index, &keys, files, out),
         Err(WordsErr::Bad(fault)) => refuse(alloc, fault, out),
         Err(WordsErr::NoMemory) => show_want(out),
     }
