@@ -6,7 +6,7 @@ usage: texts.py PROGRAM
 checks/pilots.tsv: the key file (checks/pilots/NAME.keys, or one of those that `made` describes), further words, the
 status and the text. checks/words.tsv: all words, over a file K of one empty line, the status and the text. A text is
 `text` and the text with \\n for a line feed, or `sha256 SUM length N`; in words.tsv it is the text alone.
-checks/indexes.tsv, checks/queries.tsv, checks/stats.tsv and checks/commands.tsv say in their heads what they hold. The stored run of the crate
+checks/indexes.tsv, queries.tsv, checks.tsv, stats.tsv and commands.tsv say in their heads what they hold. The stored run of the crate
 `check_index` has indexes with a fault, and the words for each.
 """
 import hashlib
@@ -22,18 +22,28 @@ MULTIPLIER = 0xC6A4A7935BD1E995
 MASK = 2**64 - 1
 
 
-def hash_of_number(number, seed):
-    """MurmurHash64A of the eight bytes of a number, the lowest first."""
-    state = seed ^ (8 * MULTIPLIER & MASK)
-    block = number * MULTIPLIER & MASK
-    block = (block ^ block >> 47) * MULTIPLIER & MASK
-    state = (state ^ block) * MULTIPLIER & MASK
+def hash_of(data, seed):
+    """MurmurHash64A."""
+    state = seed ^ (len(data) * MULTIPLIER & MASK)
+    whole = len(data) // 8 * 8
+    for at in range(0, whole, 8):
+        block = int.from_bytes(data[at : at + 8], "little") * MULTIPLIER & MASK
+        block = (block ^ block >> 47) * MULTIPLIER & MASK
+        state = (state ^ block) * MULTIPLIER & MASK
+    if whole < len(data):
+        state = (state ^ int.from_bytes(data[whole:], "little")) * MULTIPLIER & MASK
     state = (state ^ state >> 47) * MULTIPLIER & MASK
     return state ^ state >> 47
 
 
 def generated(count, seed):
-    return b"".join(b"%016x\n" % hash_of_number(i, seed) for i in range(count))
+    return b"".join(b"%016x\n" % hash_of(i.to_bytes(8, "little"), seed) for i in range(count))
+
+
+def unmarked(index):
+    """An index of version 2 as one of version 1."""
+    body = index[:4] + b"\1" + index[5:48] + index[64:-8]
+    return body + hash_of(body, 0).to_bytes(8, "little")
 
 
 def made(name):
@@ -57,12 +67,6 @@ def written(name):
         return b"".join(b"k%d\n" % i for i in range(int(rest)))
     count, _, seed = rest.partition(":")
     return generated(int(count), int(seed))
-
-
-def first_version(index):
-    """The same index in the first version of the file, which has no mark."""
-    body = index[:4] + b"\x01" + index[5:48] + index[64:-8]
-    return body + hash_of(body, 0).to_bytes(8, "little")
 
 
 def plain(text):
@@ -142,12 +146,32 @@ class Checks:
             right = run.returncode == int(status) and run.stdout == plain(want)
             self.same(("query", keys, settings, queries), right, (run.returncode, run.stdout), (status, want))
 
+    def checks(self):
+        built = None
+        for command, version, keys, settings, lines, status, want, left in table("checks.tsv"):
+            if built != (keys, settings):
+                built = (keys, settings)
+                self.put("K", written(keys))
+                self.run(["build", "K", "I", *settings.split()])
+                index = (self.folder / "I").read_bytes()
+            old = index if version == "2" else unmarked(index)
+            self.put("I", old)
+            self.put("L", written(lines))
+            run = self.run([command, "I", "L"])
+            found = (self.folder / "I").read_bytes()
+            right = run.returncode == int(status) and run.stdout == plain(want) and not (self.folder / "I.tmp").exists()
+            if left.startswith("another"):
+                _, length, _, _, digest = left.replace(",", "").split(" ")
+                right = right and (len(found), int.from_bytes(found[-8:], "little")) == (int(length), int(digest))
+            else:
+                right = right and found == (index if left == "as built" else old)
+            self.same((command, version, keys, settings, lines), right, (run.returncode, run.stdout, found[-8:]), (status, want, left))
     def stats(self):
         for version, keys, settings, status, want in table("stats.tsv"):
             self.put("K", written(keys))
             self.run(["build", "K", "I", *settings.split()])
             if version == "1":
-                self.put("I", first_version((self.folder / "I").read_bytes()))
+                self.put("I", unmarked((self.folder / "I").read_bytes()))
             run = self.run(["stats", "I"])
             right = run.returncode == int(status) and run.stdout == plain(want)
             self.same(("stats", version, keys, settings), right, (run.returncode, run.stdout), (status, want))
@@ -189,6 +213,7 @@ def main():
         checks.texts()
         checks.indexes()
         checks.queries()
+        checks.checks()
         checks.stats()
         checks.refusals()
         checks.commands()

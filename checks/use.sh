@@ -58,6 +58,9 @@ done
 check "a pipe of queries" "$(head -3 new.keys | "$program" query new /dev/stdin | cmp - <(head -3 text) && echo same)" same
 check "a pipe of keys" "$(cat new.keys | "$program" build /dev/stdin piped >/dev/null && cmp piped new && echo same)" same
 check "no queries" "$(status query new /dev/null) $(wc -c <text | tr -d ' ')" "0 0"
+check "a pipe of keys to check" "$(sort -r new.keys | "$program" check new /dev/stdin)" "good $count keys"
+check "a check of other keys" "$(status check new old.keys)" 7
+check "an upgrade of an index with a mark" "$("$program" upgrade new new.keys)" "already version 2"
 check "no index" "$(status query missing new.keys)" 2
 check "no queries' file" "$(status query new missing)" 2
 

@@ -3,10 +3,11 @@ use Rattle.std.specs.Prelude.{ℕ, ◌+◌, List, [], ◌∷◌, string_bytes, c
 use Rattle.command_words.specs.declared.faults.WordFault.{WordFault}
 use Rattle.command_words.specs.declared.kinds.TheConstants.{COMMAND, MISSING, EXTRA, SAME_NAME}
 use Rattle.command_words.specs.declared.words.Command.{Command}
-use Rattle.command_words.specs.declared.words.Command.TheVariants.{Pilots, Build, Query, Stats}
+use Rattle.command_words.specs.declared.words.Command.TheVariants.{Pilots, Build, Query, Check, Stats, Upgrade}
 use Rattle.command_words.specs.declared.words.Name.{Name}
 use Rattle.command_words.specs.declared.words.Name.TheVariants as name
-use Rattle.command_words.specs.Names.{belongs_to_index}
+use Rattle.command_words.specs.declared.words.TwoNames.{TwoNames}
+use Rattle.command_words.specs.Names.{belongs_to_index, own_or_tmp}
 use Rattle.command_words.specs.Options.{OptionsData, options_data}
 use Rattle.command_words.specs.Settings.{Given, nothing_given, with_word, options_of}
 
@@ -15,6 +16,8 @@ pub data CommandData : Type 0 where
   PilotsOf : List ℕ → OptionsData → CommandData
   BuildOf : List ℕ → List ℕ → OptionsData → CommandData
   QueryOf : List ℕ → List ℕ → CommandData
+  CheckOf : List ℕ → List ℕ → CommandData
+  UpgradeOf : List ℕ → List ℕ → CommandData
   StatsOf : List ℕ → CommandData
 
 -- a command as data
@@ -22,6 +25,8 @@ abbrev pub command_data : Command → CommandData
 command_data (Pilots keys options) = PilotsOf (string_bytes keys) (options_data options)
 command_data (Build keys index options) = BuildOf (string_bytes keys) (string_bytes index) (options_data options)
 command_data (Query index queries) = QueryOf (string_bytes index) (string_bytes queries)
+command_data (Check index keys) = CheckOf (string_bytes index) (string_bytes keys)
+command_data (Upgrade index keys) = UpgradeOf (string_bytes index) (string_bytes keys)
 command_data (Stats index) = StatsOf (string_bytes index)
 
 -- a fault of this kind in this word
@@ -68,12 +73,38 @@ build_of [] = Err (fault_at 1 MISSING)
 build_of (keys ∷ []) = Err (fault_at 2 MISSING)
 build_of (keys ∷ index ∷ settings) = unless_same keys index (with_options (BuildOf keys index) (options_in settings 3))
 
+-- two names as bytes
+abbrev pub names_data : TwoNames → List ℕ × List ℕ
+names_data names = (string_bytes names.first, string_bytes names.second)
+
+-- the two names that words are, with no word after them
+abbrev pub two_names : List (List ℕ) → Result (List ℕ × List ℕ) WordFault
+two_names [] = Err (fault_at 1 MISSING)
+two_names (first ∷ []) = Err (fault_at 2 MISSING)
+two_names (first ∷ second ∷ []) = Ok (first, second)
+two_names (first ∷ second ∷ extra ∷ more) = Err (fault_at 3 EXTRA)
+
+-- a command on two names, or their fault
+abbrev pub with_names : (List ℕ → List ℕ → CommandData) → Result (List ℕ × List ℕ) WordFault → Result CommandData WordFault
+with_names command (Err fault) = Err fault
+with_names command (Ok names) = Ok (command names.0 names.1)
+
 -- the command `query`, from the words after it: the index and the queries
 abbrev pub query_of : List (List ℕ) → Result CommandData WordFault
-query_of [] = Err (fault_at 1 MISSING)
-query_of (index ∷ []) = Err (fault_at 2 MISSING)
-query_of (index ∷ queries ∷ []) = Ok (QueryOf index queries)
-query_of (index ∷ queries ∷ extra ∷ more) = Err (fault_at 3 EXTRA)
+query_of words = with_names QueryOf (two_names words)
+
+-- the command `check`, from the words after it: the index and the key file
+abbrev pub check_of : List (List ℕ) → Result CommandData WordFault
+check_of words = with_names CheckOf (two_names words)
+
+-- the command `upgrade` on an index and a key file, unless the key file is named as the index is written
+abbrev pub unless_own : Result (List ℕ × List ℕ) WordFault → Result CommandData WordFault
+unless_own (Err fault) = Err fault
+unless_own (Ok names) = if own_or_tmp names.1 names.0 then Err (fault_at 2 SAME_NAME) else Ok (UpgradeOf names.0 names.1)
+
+-- the command `upgrade`, from the words after it: the index and the key file
+abbrev pub upgrade_of : List (List ℕ) → Result CommandData WordFault
+upgrade_of words = unless_own (two_names words)
 
 -- the command `stats`, from the words after it: the index
 abbrev pub stats_of : List (List ℕ) → Result CommandData WordFault
@@ -87,6 +118,8 @@ name_of word =
     if bytes_eq word (codes "pilots") then Some name.Pilots
     else if bytes_eq word (codes "build") then Some name.Build
     else if bytes_eq word (codes "query") then Some name.Query
+    else if bytes_eq word (codes "check") then Some name.Check
+    else if bytes_eq word (codes "upgrade") then Some name.Upgrade
     else if bytes_eq word (codes "stats") then Some name.Stats
     else None
 
@@ -96,6 +129,8 @@ command_named None words = Err (fault_at 0 COMMAND)
 command_named (Some name.Pilots) words = pilots_of words
 command_named (Some name.Build) words = build_of words
 command_named (Some name.Query) words = query_of words
+command_named (Some name.Check) words = check_of words
+command_named (Some name.Upgrade) words = upgrade_of words
 command_named (Some name.Stats) words = stats_of words
 
 -- the command that the words after the program's name ask for, or the first faulty word

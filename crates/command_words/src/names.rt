@@ -1,6 +1,6 @@
-// Names that a build of an index writes under.
+// Names that a build or an upgrade of an index writes under.
 ghost use Rattle.std.specs.Prelude.{◌≡◌};
-ghost use Rattle.command_words.specs.Names.{belongs_to_index, follows_index};
+ghost use Rattle.command_words.specs.Names.{belongs_to_index, follows_index, none_or_tmp, own_or_tmp};
 
 // What stands behind the name of an index while it is written.
 pub(crate) const TMP: &str = ".tmp";
@@ -30,4 +30,25 @@ fn is_after_index(rest: &[u8]) -> bool
         return true;
     }
     rest.starts_with(PART.as_bytes())
+}
+
+// Whether a name is that of the index, or the one that it is written under.
+pub(crate) fn is_own_or_tmp(name: &str, index: &str) -> bool
+    ensures { result ≡ own_or_tmp name.now index.now }
+{
+    let (name, index) = (name.as_bytes(), index.as_bytes());
+    if !name.starts_with(index) {
+        return false;
+    }
+    is_none_or_tmp(&name[index.len()..])
+}
+
+// Whether this, behind the name of an index, makes its own name or the one that it is written under.
+fn is_none_or_tmp(rest: &[u8]) -> bool
+    ensures { result ≡ none_or_tmp rest.now }
+{
+    if rest.is_empty() {
+        return true;
+    }
+    rest == TMP.as_bytes()
 }

@@ -84,7 +84,7 @@ const FAULTY: [(&str, u64, u8); 57] = [
 ];
 
 // The same of the commands on two files.
-const FAULTY_OF_TWO: [(&str, u64, u8); 18] = [
+const FAULTY_OF_TWO: [(&str, u64, u8); 29] = [
     ("build", 1, MISSING),
     ("build K", 2, MISSING),
     ("build K I alpha=49", 3, RANGE),
@@ -102,6 +102,17 @@ const FAULTY_OF_TWO: [(&str, u64, u8); 18] = [
     ("query I", 2, MISSING),
     ("query I Q x", 3, EXTRA),
     ("query I Q x y", 3, EXTRA),
+    ("check", 1, MISSING),
+    ("check I", 2, MISSING),
+    ("check I K x", 3, EXTRA),
+    ("check K I alpha=98", 3, EXTRA),
+    ("upgrade", 1, MISSING),
+    ("upgrade K", 2, MISSING),
+    ("upgrade I K x", 3, EXTRA),
+    ("upgrade I I I I", 3, EXTRA),
+    ("upgrade I I alpha=49", 3, EXTRA),
+    ("upgrade K K", 2, SAME_NAME),
+    ("upgrade I I.tmp", 2, SAME_NAME),
     ("Build K I", 0, COMMAND),
 ];
 
@@ -198,6 +209,17 @@ fn names_are_kept_as_they_stand(rt: HostRuntime) -> Result<(), Fail> {
             return Err(Fail::from("a good line is refused"));
         };
         assert_eq!(&rt; (keys.as_str(), index.as_str()), names);
+    }
+    for (line, names) in [
+        ("upgrade I.tmp I", ("I.tmp", "I")),
+        ("upgrade I I.part0", ("I", "I.part0")),
+        ("upgrade I I.tm", ("I", "I.tm")),
+        ("upgrade I .tmp", ("I", ".tmp")),
+    ] {
+        let Ok(Command::Upgrade { index, keys }) = read_line(rt.alloc(), line)? else {
+            return Err(Fail::from("a good line is refused"));
+        };
+        assert_eq!(&rt; (index.as_str(), keys.as_str()), names);
     }
     let Ok(Command::Query { index, queries }) = read_line(rt.alloc(), "query I I")? else {
         return Err(Fail::from("a good line is refused"));

@@ -3,12 +3,14 @@ ghost use Rattle.std.specs.Prelude.{◌≡◌, ◌+◌, ◌<◌, ◌^◌, IfOk, 
 ghost use Rattle.command_words.specs.Options.{words_of, options_data};
 ghost use Rattle.command_words.specs.Refusals.{IfBad};
 ghost use Rattle.command_words.specs.Settings.{chosen_values, nothing_given};
-ghost use Rattle.command_words.specs.Words.{command_data, name_of, command_named, command_of, pilots_of, build_of, query_of, stats_of, options_in, given_by};
+ghost use Rattle.command_words.specs.Words.{command_data, name_of, command_named, command_of};
+ghost use Rattle.command_words.specs.Words.{pilots_of, build_of, query_of, check_of, stats_of, upgrade_of};
+ghost use Rattle.command_words.specs.Words.{names_data, two_names, options_in, given_by};
 
 use crate::chosen::Chosen;
 use crate::faults::{Refusal, WordFault, WordsErr};
 use crate::kinds::{COMMAND, EXTRA, MISSING, SAME_NAME};
-use crate::names::is_of_index;
+use crate::names::{is_of_index, is_own_or_tmp};
 use crate::options::Options;
 use std::alloc::Global;
 
@@ -28,6 +30,21 @@ pub enum Command {
         index: String,
         queries: String,
     },
+    Check {
+        index: String,
+        keys: String,
+    },
+    Upgrade {
+        index: String,
+        keys: String,
+    },
+}
+
+// The names of two files.
+#[derive(Drop)]
+pub(crate) struct TwoNames {
+    pub(crate) first: String,
+    pub(crate) second: String,
     Stats {
         index: String,
     },
@@ -39,6 +56,8 @@ pub enum Name {
     Pilots,
     Build,
     Query,
+    Check,
+    Upgrade,
     Stats,
 }
 
@@ -71,6 +90,8 @@ fn name_in(word: &str) -> Option<Name>
         "pilots" => Some(Name::Pilots),
         "build" => Some(Name::Build),
         "query" => Some(Name::Query),
+        "check" => Some(Name::Check),
+        "upgrade" => Some(Name::Upgrade),
         "stats" => Some(Name::Stats),
         _ => None,
     }
@@ -87,6 +108,8 @@ fn read_command(alloc: Global, name: Name, words: &[String]) -> Result<Command, 
         Name::Pilots => read_pilots(alloc, words),
         Name::Build => read_build(alloc, words),
         Name::Query => read_query(alloc, words),
+        Name::Check => read_check(alloc, words),
+        Name::Upgrade => read_upgrade(alloc, words),
         Name::Stats => read_stats(alloc, words),
     }
 }
@@ -133,18 +156,57 @@ fn read_query(alloc: Global, words: &[String]) -> Result<Command, WordsErr>
     ensures ok { IfOk result (λ c. query_of (words_of words.now) ≡ Ok (command_data c)) }
     ensures bad { IfErr result (IfBad (λ fault. query_of (words_of words.now) ≡ Err fault)) }
 {
-    let Some((index, rest)) = words.split_first() else {
+    let names = read_two(alloc, words)?;
+    Ok(Command::Query {
+        index: names.first,
+        queries: names.second,
+    })
+}
+
+// The command `check`, from the words after it.
+fn read_check(alloc: Global, words: &[String]) -> Result<Command, WordsErr>
+    ensures ok { IfOk result (λ c. check_of (words_of words.now) ≡ Ok (command_data c)) }
+    ensures bad { IfErr result (IfBad (λ fault. check_of (words_of words.now) ≡ Err fault)) }
+{
+    let names = read_two(alloc, words)?;
+    Ok(Command::Check {
+        index: names.first,
+        keys: names.second,
+    })
+}
+
+// The command `upgrade`, from the words after it.
+fn read_upgrade(alloc: Global, words: &[String]) -> Result<Command, WordsErr>
+    ensures ok { IfOk result (λ c. upgrade_of (words_of words.now) ≡ Ok (command_data c)) }
+    ensures bad { IfErr result (IfBad (λ fault. upgrade_of (words_of words.now) ≡ Err fault)) }
+{
+    let names = read_two(alloc, words)?;
+    if is_own_or_tmp(&names.second, &names.first) {
+        return Err(bad(2, SAME_NAME));
+    }
+    Ok(Command::Upgrade {
+        index: names.first,
+        keys: names.second,
+    })
+}
+
+// The two names that words are, with no word after them.
+fn read_two(alloc: Global, words: &[String]) -> Result<TwoNames, WordsErr>
+    ensures ok { IfOk result (λ names. two_names (words_of words.now) ≡ Ok (names_data names)) }
+    ensures bad { IfErr result (IfBad (λ fault. two_names (words_of words.now) ≡ Err fault)) }
+{
+    let Some((first, rest)) = words.split_first() else {
         return Err(bad(1, MISSING));
     };
-    let Some((queries, more)) = rest.split_first() else {
+    let Some((second, more)) = rest.split_first() else {
         return Err(bad(2, MISSING));
     };
     if !more.is_empty() {
         return Err(bad(3, EXTRA));
     }
-    let index = String::from_str(alloc, index)?;
-    let queries = String::from_str(alloc, queries)?;
-    Ok(Command::Query { index, queries })
+    let first = String::from_str(alloc, first)?;
+    let second = String::from_str(alloc, second)?;
+    Ok(TwoNames { first, second })
 }
 
 // The command `stats`, from the words after it.

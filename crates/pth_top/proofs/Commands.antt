@@ -4,7 +4,7 @@ use Rattle.std.specs.Prelude.{IsSomeAnd, option_and_then}
 use Rattle.std.specs.FinMap as map
 use Rattle.build_outcome.specs.Index.{IndexData}
 use Rattle.command_words.specs.Options.{OptionsData}
-use Rattle.command_words.specs.Words.{PilotsOf, BuildOf, QueryOf, StatsOf}
+use Rattle.command_words.specs.Words.{PilotsOf, BuildOf, QueryOf, CheckOf, StatsOf, UpgradeOf}
 use Rattle.index_file.specs.Encoded.{EncodedIndex}
 use Rattle.index_text.specs.Text.{index_text, IsIndex}
 use Rattle.pth_outside.specs.Files.{FileMap, FilesState, ReadsFiles, OfFile, contents}
@@ -18,9 +18,9 @@ use Rattle.pth_top.specs.Done.{Done, NewFileData, done_of, with_file, with_new}
 use Rattle.pth_top.specs.Ending.{Answers}
 use Rattle.pth_top.specs.Lists.{IsIndexFor}
 use Rattle.pth_top.specs.Pilots.{pilots_result}
-use Rattle.pth_top.specs.Query.{index_read, query_result}
+use Rattle.pth_top.specs.Query.{index_read}
 use Rattle.pth_top.specs.Stats.{stats_result}
-use Rattle.pth_top.specs.Words.{command_result, with_index}
+use Rattle.pth_top.specs.Words.{command_result, over_index, with_index}
 use Rattle.pth_top.proofs.Listed.{over_file, over_none}
 use Rattle.pth_top.proofs.Replacing.{with_new-name}
 
@@ -95,6 +95,20 @@ pub answers_query : (index queries : List ℕ) (answer : Result Answer Stop) (ol
     Answers (Ok (QueryOf index queries)) answer old new
 answers_query index queries answer old new done reads = record { done = done; builds = nothing_built answer old.told; reads = reads }
 
+-- the answer of `check`
+pub answers_check : (index keys : List ℕ) (answer : Result Answer Stop) (old new : FilesState) →
+    IfOk answer (λ a. IfSome old.told (λ m. command_result (Ok (CheckOf index keys)) m ≡ Some (done_of a))) →
+    ReadsFiles old new (IsErrOf answer Fault) (IfSome old.told (λ m. command_result (Ok (CheckOf index keys)) m ≡ None)) →
+    Answers (Ok (CheckOf index keys)) answer old new
+answers_check index keys answer old new done reads = record { done = done; builds = nothing_built answer old.told; reads = reads }
+
+-- the answer of `upgrade`
+pub answers_upgrade : (index keys : List ℕ) (answer : Result Answer Stop) (old new : FilesState) →
+    IfOk answer (λ a. IfSome old.told (λ m. command_result (Ok (UpgradeOf index keys)) m ≡ Some (done_of a))) →
+    ReadsFiles old new (IsErrOf answer Fault) (IfSome old.told (λ m. command_result (Ok (UpgradeOf index keys)) m ≡ None)) →
+    Answers (Ok (UpgradeOf index keys)) answer old new
+answers_upgrade index keys answer old new done reads = record { done = done; builds = nothing_built answer old.told; reads = reads }
+
 -- the answer of `stats`
 pub answers_stats : (index : List ℕ) (answer : Result Answer Stop) (old new : FilesState) →
     IfOk answer (λ a. OfFile old.told index (λ bytes. stats_result bytes ≡ done_of a)) →
@@ -115,42 +129,42 @@ file_of_built name o keys x d is built text =
     (record { named = refl; for_keys = record { index = x; built = built; text = text } })
 
 -- what comes after an index that is read
-after_index : (index queries : Option (List ℕ)) (x : EncodedIndex) (d : Option Done) → IsSomeAnd index (λ bytes. index_read bytes ≡ Ok x) →
-    option_map (query_result x) queries ≡ d →
-    option_and_then (λ bytes. with_index (index_read bytes) (λ x. option_map (query_result x) queries)) index ≡ d
-after_index None queries x d is gives = absurd is
-after_index (Some bytes) queries x d is gives = ap (λ r. with_index r (λ x. option_map (query_result x) queries)) is ∙ gives
+after_index : (index second : Option (List ℕ)) (give : EncodedIndex → List ℕ → Done) (x : EncodedIndex) (d : Option Done) →
+    IsSomeAnd index (λ bytes. index_read bytes ≡ Ok x) → option_map (give x) second ≡ d →
+    option_and_then (λ bytes. with_index (index_read bytes) (λ x. option_map (give x) second)) index ≡ d
+after_index None second give x d is gives = absurd is
+after_index (Some bytes) second give x d is gives = ap (λ r. with_index r (λ x. option_map (give x) second)) is ∙ gives
 
--- the values of queries in an index that is read
-pub query_found : (told : Option FileMap) (index queries : List ℕ) (x : EncodedIndex) (d : Done) →
-    OfFile told index (λ bytes. index_read bytes ≡ Ok x) → OfFile told queries (λ bytes. query_result x bytes ≡ d) →
-    IfSome told (λ m. command_result (Ok (QueryOf index queries)) m ≡ Some d)
-query_found None index queries x d is gives = tt
-query_found (Some m) index queries x d is gives =
-    after_index (map.get m index) (map.get m queries) x (Some d) (is refl) (over_file (Some m) queries (query_result x) d gives)
+-- what an index that is read and a second file give
+pub over_found : (told : Option FileMap) (index second : List ℕ) (give : EncodedIndex → List ℕ → Done) (x : EncodedIndex) (d : Done) →
+    OfFile told index (λ bytes. index_read bytes ≡ Ok x) → OfFile told second (λ bytes. give x bytes ≡ d) →
+    IfSome told (λ m. over_index m index second give ≡ Some d)
+over_found None index second give x d is gives = tt
+over_found (Some m) index second give x d is gives =
+    after_index (map.get m index) (map.get m second) give x (Some d) (is refl) (over_file (Some m) second (give x) d gives)
 
--- no queries for an index that is read
-pub query_missing : (told : Option FileMap) (index queries : List ℕ) (x : EncodedIndex) →
-    OfFile told index (λ bytes. index_read bytes ≡ Ok x) → contents told queries ≡ None →
-    IfSome told (λ m. command_result (Ok (QueryOf index queries)) m ≡ None)
-query_missing None index queries x is none = tt
-query_missing (Some m) index queries x is none =
-    after_index (map.get m index) (map.get m queries) x None (is refl) (over_none (Some m) queries (query_result x) none)
+-- no second file for an index that is read
+pub over_missing : (told : Option FileMap) (index second : List ℕ) (give : EncodedIndex → List ℕ → Done) (x : EncodedIndex) →
+    OfFile told index (λ bytes. index_read bytes ≡ Ok x) → contents told second ≡ None →
+    IfSome told (λ m. over_index m index second give ≡ None)
+over_missing None index second give x is none = tt
+over_missing (Some m) index second give x is none =
+    after_index (map.get m index) (map.get m second) give x None (is refl) (over_none (Some m) second (give x) none)
 
 -- an index that is refused
-pub query_refused : (told : Option FileMap) (index queries : List ℕ) (d : Done) → OfFile told index (λ bytes. index_read bytes ≡ Err d) →
-    IfSome told (λ m. command_result (Ok (QueryOf index queries)) m ≡ Some d)
-query_refused None index queries d is = tt
-query_refused (Some m) index queries d is = found (map.get m index) (is refl)
+pub over_refused : (told : Option FileMap) (index second : List ℕ) (give : EncodedIndex → List ℕ → Done) (d : Done) →
+    OfFile told index (λ bytes. index_read bytes ≡ Err d) → IfSome told (λ m. over_index m index second give ≡ Some d)
+over_refused None index second give d is = tt
+over_refused (Some m) index second give d is = found (map.get m index) (is refl)
   where
     found : (x : Option (List ℕ)) → IsSomeAnd x (λ bytes. index_read bytes ≡ Err d) →
-        option_and_then (λ bytes. with_index (index_read bytes) (λ x. option_map (query_result x) (map.get m queries))) x ≡ Some d
+        option_and_then (λ bytes. with_index (index_read bytes) (λ x. option_map (give x) (map.get m second))) x ≡ Some d
     found None is = absurd is
-    found (Some bytes) is = ap (λ r. with_index r (λ x. option_map (query_result x) (map.get m queries))) is
+    found (Some bytes) is = ap (λ r. with_index r (λ x. option_map (give x) (map.get m second))) is
 
 -- no index
-pub index_missing : (told : Option FileMap) (index queries : List ℕ) → contents told index ≡ None →
-    IfSome told (λ m. command_result (Ok (QueryOf index queries)) m ≡ None)
-index_missing None index queries none = tt
-index_missing (Some m) index queries none =
-    ap (option_and_then (λ bytes. with_index (index_read bytes) (λ x. option_map (query_result x) (map.get m queries)))) none
+pub over_nothing : (told : Option FileMap) (index second : List ℕ) (give : EncodedIndex → List ℕ → Done) → contents told index ≡ None →
+    IfSome told (λ m. over_index m index second give ≡ None)
+over_nothing None index second give none = tt
+over_nothing (Some m) index second give none =
+    ap (option_and_then (λ bytes. with_index (index_read bytes) (λ x. option_map (give x) (map.get m second)))) none

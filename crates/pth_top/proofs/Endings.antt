@@ -11,7 +11,7 @@ use Rattle.pth_outside.specs.Files.{FileMap, FilesState, LeavesFiles, ReadsFiles
 use Rattle.pth_outside.specs.FilesLaws.{ReadsFiles-leaves, ReadsFiles-none, ReadsFiles-if, LeavesFiles-ok, LeavesFiles-if, LeavesFiles-then}
 use Rattle.pth_outside.specs.Sink.{SinkState, LeavesSink, written, Prints, WritesFront}
 use Rattle.pth_outside.specs.SinkLaws.{LeavesSink-if}
-use Rattle.pth_top.specs.declared.TheConstants.{FILE_FAULT, FAILED_OUTPUT, INDEX_REFUSED, NO_MEMORY, REPEATED_KEY, WORDS_REFUSED}
+use Rattle.pth_top.specs.declared.TheConstants.{FILE_FAULT, FAILED_OUTPUT, CHECK_FAILED, NO_MEMORY, REPEATED_KEY, WORDS_REFUSED}
 use Rattle.pth_top.specs.declared.answer.Answer.{Answer}
 use Rattle.pth_top.specs.declared.answer.NewFile.{NewFile}
 use Rattle.pth_top.specs.declared.answer.Stop.{Stop}
@@ -57,7 +57,7 @@ shown_same status result answers not_failed not_want =
     ⊎_elim (λ same. same) (λ rest. ⊎_elim (λ failed. absurd (not_failed failed)) (λ want. absurd (not_want want)) rest) answers
 
 -- a status that is shown is one of a run
-shown_status : (status result : ℕ) → IsResultOf status result → status ≤ INDEX_REFUSED → IsStatus result
+shown_status : (status result : ℕ) → IsResultOf status result → status ≤ CHECK_FAILED → IsStatus result
 shown_status status result answers few = ⊎_elim (λ same. inl (omega arith)) (λ rest. inr rest) answers
 
 -- a fault is never shown where the status is that of a command
@@ -130,7 +130,7 @@ kept_file (Some file) old new is never = absurd (never refl)
 
 -- a command whose file was written, and whose text was handed over
 pub finishes_shown : (d : Done) (result : ℕ) (text : List ℕ) (f f' : FilesState) (s s' : SinkState) {failed because : Type 0} →
-    text ≡ d.text → IsOfCommand d.status → d.status ≤ INDEX_REFUSED → (IsSome d.file → d.status ≡ 0) →
+    text ≡ d.text → IsOfCommand d.status → d.status ≤ CHECK_FAILED → (IsSome d.file → d.status ≡ 0) →
     f'.told ≡ option_map (with_file d.file) f.told → LeavesFiles f f' failed because → IsShown d.status result text s s' →
     Finishes d result f f' s s'
 finishes_shown d result text f f' s s' says own few whole is leaves shown =

@@ -3,16 +3,19 @@ use Rattle.std.proofs.Common.{◌≡◌, ℕ, true, false, cond, List, [], ◌�
 use Rattle.std.proofs.Common.{Some, None, Result, Ok, Err, IfSome, option_map, refl, ap, ◌∙◌, arith}
 use Rattle.std.specs.Prelude.{IsSomeAnd, nat_lt, codes, option_and_then}
 use Rattle.std.specs.FinMap as map
-use Rattle.build_outcome.specs.Index.{IndexData}
+use Rattle.build_outcome.specs.Index.{KeyMarkData, IndexData}
 use Rattle.build_outcome.specs.Outcome.{Outcome, repeated, exhausted, built, outcome_of}
 use Rattle.build_outcome.specs.OutcomeLaws.{repeated_key}
 use Rattle.command_words.specs.declared.faults.WordFault.{WordFault}
 use Rattle.command_words.specs.Options.{OptionsData}
-use Rattle.command_words.specs.Words.{CommandData, PilotsOf, BuildOf, QueryOf, StatsOf}
+use Rattle.command_words.specs.Words.{CommandData, PilotsOf, BuildOf, QueryOf, CheckOf, StatsOf, UpgradeOf}
 use Rattle.hem_build.specs.Rules.{rules_of}
 use Rattle.index_file.specs.Encoded.{EncodedIndex}
 use Rattle.index_text.specs.declared.fault.IndexFault.{IndexFault}
 use Rattle.index_text.specs.Reading.{index_at}
+use Rattle.key_check.specs.declared.checked.Checked.{Checked}
+use Rattle.key_check.specs.declared.checked.Checked.TheVariants.{Good, TooLong, NoValue, Repeats, Counts, Differs}
+use Rattle.key_check.specs.Checked.{checked}
 use Rattle.pilot_codecs.specs.declared.code.Encoding.{Encoding}
 use Rattle.pth_outside.specs.Files.{FileMap}
 use Rattle.pth_outside.specs.Keys.{keys_of, first_too_long}
@@ -20,8 +23,10 @@ use Rattle.pth_top.specs.declared.TheConstants.{REPEATED_KEY}
 use Rattle.pth_top.specs.Done.{Done}
 use Rattle.pth_top.specs.Lists.{HasRepeat, and_then, gives, list_in, unless_too_long, too_many_result, index_by, index_for, index_in}
 use Rattle.pth_top.specs.Build.{build_result, index_file_of}
+use Rattle.pth_top.specs.Check.{check_result, good_result, mark_found}
 use Rattle.pth_top.specs.Pilots.{pilots_result, pilots_of_index}
 use Rattle.pth_top.specs.Query.{faulty_result, index_read, unless_faulty, query_result, values_of}
+use Rattle.pth_top.specs.Upgrade.{upgraded_from, upgrade_result}
 use Rattle.pth_top.specs.Stats.{stats_of_index, stats_result}
 use Rattle.pth_top.specs.Words.{command_result, with_index, CommandRepeats}
 
@@ -82,28 +87,66 @@ not_of_lines lines None most index status =
     ] status
 
 -- nor does a file of queries
-not_of_queries : (index : EncodedIndex) (found : Option (List ℕ)) (d : Done) → option_map (query_result index) found ≡ Some d →
-    d.status ≡ REPEATED_KEY → ⊥
+not_of_queries : (index : EncodedIndex) (bytes : List ℕ) → (query_result index bytes).status ≡ REPEATED_KEY → ⊥
 unfolding list_in
-not_of_queries index None d is status = cc
-not_of_queries index (Some bytes) d is status =
-    let same : query_result index bytes ≡ d = cc in
-    not_of_lines (keys_of bytes) (first_too_long (take 67108864 (keys_of bytes))) 67108864 index (ap (λ (x : Done). x.status) same ∙ status)
+not_of_queries index bytes status =
+    not_of_lines (keys_of bytes) (first_too_long (take 67108864 (keys_of bytes))) 67108864 index status
+
+-- nor does a check of lines
+not_of_found : (index : EncodedIndex) (found : Checked) → (gives (mark_found found) (λ mark. good_result index)).status ≡ REPEATED_KEY → ⊥
+not_of_found index (Good mark) status = omega arith
+not_of_found index (TooLong line) status = omega arith
+not_of_found index (NoValue line) status = omega arith
+not_of_found index (Repeats line earlier) status = omega arith
+not_of_found index (Counts n lines) status = omega arith
+not_of_found index (Differs kept counted) status = omega arith
+
+-- nor does a file of lines
+not_of_checked : (index : EncodedIndex) (bytes : List ℕ) → (check_result index bytes).status ≡ REPEATED_KEY → ⊥
+not_of_checked index bytes status = not_of_found index (checked index.index (keys_of bytes)) status
+
+-- nor does an upgrade of an index, with or without a mark
+not_of_upgraded : (name : List ℕ) (index : EncodedIndex) (kept : Option KeyMarkData) (mark : KeyMarkData) →
+    (upgraded_from name index kept mark).status ≡ REPEATED_KEY → ⊥
+not_of_upgraded name index (Some kept) mark status = omega arith
+not_of_upgraded name index None mark status = omega arith
+
+-- nor by what a check came to
+not_of_upgrade_found : (name : List ℕ) (index : EncodedIndex) (found : Checked) →
+    (gives (mark_found found) (upgraded_from name index index.index.mark)).status ≡ REPEATED_KEY → ⊥
+not_of_upgrade_found name index (Good mark) status = not_of_upgraded name index index.index.mark mark status
+not_of_upgrade_found name index (TooLong line) status = omega arith
+not_of_upgrade_found name index (NoValue line) status = omega arith
+not_of_upgrade_found name index (Repeats line earlier) status = omega arith
+not_of_upgrade_found name index (Counts n lines) status = omega arith
+not_of_upgrade_found name index (Differs kept counted) status = omega arith
+
+-- nor by a file of lines
+not_of_upgrade : (name : List ℕ) (index : EncodedIndex) (bytes : List ℕ) → (upgrade_result name index bytes).status ≡ REPEATED_KEY → ⊥
+not_of_upgrade name index bytes status = not_of_upgrade_found name index (checked index.index (keys_of bytes)) status
+
+-- nor does a second file whose bytes never have it
+not_of_second : (give : EncodedIndex → List ℕ → Done) → ((x : EncodedIndex) (bytes : List ℕ) → (give x bytes).status ≡ REPEATED_KEY → ⊥) →
+    (index : EncodedIndex) (found : Option (List ℕ)) (d : Done) → option_map (give index) found ≡ Some d → d.status ≡ REPEATED_KEY → ⊥
+not_of_second give never index None d is status = cc
+not_of_second give never index (Some bytes) d is status =
+    let same : give index bytes ≡ d = cc in never index bytes (ap (λ (x : Done). x.status) same ∙ status)
 
 -- nor does an index
-not_of_index : (read : Result (IndexData × Encoding) IndexFault) (found : Option (List ℕ)) (d : Done) →
-    with_index (unless_faulty read) (λ x. option_map (query_result x) found) ≡ Some d →
-    d.status ≡ REPEATED_KEY → ⊥
-not_of_index (Err fault) found d is status =
+not_of_index : (give : EncodedIndex → List ℕ → Done) → ((x : EncodedIndex) (bytes : List ℕ) → (give x bytes).status ≡ REPEATED_KEY → ⊥) →
+    (read : Result (IndexData × Encoding) IndexFault) (found : Option (List ℕ)) (d : Done) →
+    with_index (unless_faulty read) (λ x. option_map (give x) found) ≡ Some d → d.status ≡ REPEATED_KEY → ⊥
+not_of_index give never (Err fault) found d is status =
     let same : (faulty_result fault).status ≡ d.status = cc in omega arith
-not_of_index (Ok read) found d is status = not_of_queries (record { index = read.0; enc = read.1 }) found d is status
+not_of_index give never (Ok read) found d is status = not_of_second give never (record { index = read.0; enc = read.1 }) found d is status
 
 -- nor do two files
-not_of_files : (index queries : Option (List ℕ)) (d : Done) →
-    option_and_then (λ bytes. with_index (index_read bytes) (λ x. option_map (query_result x) queries)) index ≡ Some d →
+not_of_files : (give : EncodedIndex → List ℕ → Done) → ((x : EncodedIndex) (bytes : List ℕ) → (give x bytes).status ≡ REPEATED_KEY → ⊥) →
+    (index second : Option (List ℕ)) (d : Done) →
+    option_and_then (λ bytes. with_index (index_read bytes) (λ x. option_map (give x) second)) index ≡ Some d →
     d.status ≡ REPEATED_KEY → ⊥
-not_of_files None queries d is status = cc
-not_of_files (Some bytes) queries d is status = not_of_index (index_at bytes) queries d is status
+not_of_files give never None second d is status = cc
+not_of_files give never (Some bytes) second d is status = not_of_index give never (index_at bytes) second d is status
 
 -- nor do the lines on an index
 not_of_head : (read : Result (IndexData × Encoding) IndexFault) → (gives (unless_faulty read) stats_of_index).status ≡ REPEATED_KEY → ⊥
@@ -124,7 +167,12 @@ of_command (Err fault) m d is status =
     let same : 1 ≡ d.status = cc in absurd (omega arith)
 of_command (Ok (PilotsOf keys o)) m d is status = of_file o (map.get m keys) pilots_of_index d (λ x. refl) is status
 of_command (Ok (BuildOf keys index o)) m d is status = of_file o (map.get m keys) (index_file_of index o.enc) d (λ x. refl) is status
-of_command (Ok (QueryOf index queries)) m d is status = absurd (not_of_files (map.get m index) (map.get m queries) d is status)
+of_command (Ok (QueryOf index queries)) m d is status =
+    absurd (not_of_files query_result not_of_queries (map.get m index) (map.get m queries) d is status)
+of_command (Ok (CheckOf index keys)) m d is status =
+    absurd (not_of_files check_result not_of_checked (map.get m index) (map.get m keys) d is status)
+of_command (Ok (UpgradeOf index keys)) m d is status =
+    absurd (not_of_files (upgrade_result index) (not_of_upgrade index) (map.get m index) (map.get m keys) d is status)
 of_command (Ok (StatsOf index)) m d is status = absurd (not_of_stats (map.get m index) d is status)
 
 -- a command over files that tell

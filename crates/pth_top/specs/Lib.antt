@@ -5,6 +5,8 @@ pub mod Lists
 pub mod Pilots
 pub mod Build
 pub mod Query
+pub mod Check
+pub mod Upgrade
 pub mod Stats
 pub mod Words
 pub mod Ending

@@ -58,6 +58,18 @@ too_many what most = line (codes "too many " ++ what ++ codes ": limit " ++ deci
 unfoldable pub repeated_key : ℕ → ℕ → List ℕ
 repeated_key first second = line (codes "repeated key: lines " ++ decimal first ++ codes " and " ++ decimal second)
 
+-- a line, by its number from 1, has no value
+unfoldable pub no_value : ℕ → List ℕ
+no_value number = line (codes "line " ++ decimal number ++ codes " has no value")
+
+-- a line has the value of an earlier one
+unfoldable pub repeats : ℕ → ℕ → List ℕ
+repeats number earlier = line (codes "line " ++ decimal number ++ codes " repeats line " ++ decimal earlier)
+
+-- the list has fewer lines than the index has keys
+unfoldable pub fewer : ℕ → ℕ → List ℕ
+fewer keys lines = line (codes "index has " ++ decimal keys ++ codes " keys, list has " ++ decimal lines)
+
 -- a number in 16 lower-case hexadecimal digits
 abbrev pub sixteen_digits : ℕ → List ℕ
 sixteen_digits number = encode_lower (to_be_bytes w64 number)
@@ -65,6 +77,14 @@ sixteen_digits number = encode_lower (to_be_bytes w64 number)
 -- the two numbers of a mark after a word
 unfoldable pub word_of_mark : List ℕ → KeyMarkData → List ℕ
 word_of_mark word mark = word ++ sixteen_digits mark.sum ++ codes " " ++ sixteen_digits mark.xor
+
+-- the list has another mark than the index keeps
+unfoldable pub differs : KeyMarkData → KeyMarkData → List ℕ
+differs kept counted = line (codes "keys differ: " ++ word_of_mark (codes "kept ") kept ++ word_of_mark (codes " counted ") counted)
+
+-- the lines map one to one onto the numbers below their count
+unfoldable pub good_keys : ℕ → List ℕ
+good_keys keys = line (codes "good " ++ decimal keys ++ codes " keys")
 
 -- the name of a code, as the setting spells it
 unfoldable pub code_name : Code → List ℕ
@@ -134,6 +154,14 @@ unfoldable pub summary : ℕ → ℕ → ℕ → ℕ → List ℕ
 summary keys seed size bytes =
     line (codes "built keys " ++ decimal keys ++ codes " seed " ++ decimal seed ++ codes " size " ++ decimal size
     ++ codes " bytes " ++ decimal bytes)
+
+-- the mark was written: how many keys the index has, and the length of its file
+unfoldable pub upgraded : ℕ → ℕ → List ℕ
+upgraded keys bytes = line (codes "upgraded " ++ decimal keys ++ codes " keys bytes " ++ decimal bytes)
+
+-- the index has a mark
+abbrev pub already_marked : List ℕ
+already_marked = codes "already version 2\n"
 
 -- two numbers after a word
 unfoldable pub word_of_two : List ℕ → ℕ → ℕ → List ℕ

@@ -2,7 +2,7 @@
 use Rattle.std.specs.Prelude.{ℕ, List, Option, Some, Result, Ok, Err, IsSomeAnd, option_map, option_and_then}
 use Rattle.std.specs.FinMap as fin
 use Rattle.command_words.specs.declared.faults.WordFault.{WordFault}
-use Rattle.command_words.specs.Words.{CommandData, PilotsOf, BuildOf, QueryOf, StatsOf, command_of}
+use Rattle.command_words.specs.Words.{CommandData, PilotsOf, BuildOf, QueryOf, CheckOf, StatsOf, UpgradeOf, command_of}
 use Rattle.index_file.specs.Encoded.{EncodedIndex}
 use Rattle.pth_outside.specs.Files.{FileMap, contents}
 use Rattle.pth_outside.specs.Keys.{keys_of}
@@ -11,9 +11,11 @@ use Rattle.pth_top.specs.Done.{Done, NewFileData, said}
 use Rattle.pth_top.specs.Build.{build_result, IsFileFor}
 use Rattle.pth_top.specs.Lists.{HasRepeat}
 use Rattle.pth_top.specs.Pilots.{pilots_result}
+use Rattle.pth_top.specs.Check.{check_result}
 use Rattle.pth_top.specs.Query.{index_read, query_result}
 use Rattle.pth_top.specs.Stats.{stats_result}
 use Rattle.pth_top.specs.Texts.{refused_word}
+use Rattle.pth_top.specs.Upgrade.{upgrade_result}
 
 -- the answer to words with this fault
 abbrev pub refused : WordFault → Done
@@ -24,13 +26,19 @@ abbrev pub with_index : Result EncodedIndex Done → (EncodedIndex → Option Do
 with_index (Err refusal) next = Some refusal
 with_index (Ok index) next = next index
 
+-- what an index and a second file give; a refused index decides without the second
+abbrev pub over_index : FileMap → List ℕ → List ℕ → (EncodedIndex → List ℕ → Done) → Option Done
+over_index files index second give =
+    option_and_then (λ bytes. with_index (index_read bytes) (λ x. option_map (give x) (fin.get files second))) (fin.get files index)
+
 -- what a command gives, or a fault of its words; a command on a file that isn't there gives nothing
 abbrev pub command_result : Result CommandData WordFault → FileMap → Option Done
 command_result (Err fault) files = Some (refused fault)
 command_result (Ok (PilotsOf keys options)) files = option_map (pilots_result options) (fin.get files keys)
 command_result (Ok (BuildOf keys index options)) files = option_map (build_result index options) (fin.get files keys)
-command_result (Ok (QueryOf index queries)) files =
-    option_and_then (λ bytes. with_index (index_read bytes) (λ x. option_map (query_result x) (fin.get files queries))) (fin.get files index)
+command_result (Ok (QueryOf index queries)) files = over_index files index queries query_result
+command_result (Ok (CheckOf index keys)) files = over_index files index keys check_result
+command_result (Ok (UpgradeOf index keys)) files = over_index files index keys (upgrade_result index)
 command_result (Ok (StatsOf index)) files = option_map stats_result (fin.get files index)
 
 -- what words give over files
@@ -47,6 +55,8 @@ CommandRepeats (Err fault) files = ⊥
 CommandRepeats (Ok (PilotsOf keys options)) files = IsSomeAnd (fin.get files keys) (λ bytes. HasRepeat (keys_of bytes))
 CommandRepeats (Ok (BuildOf keys index options)) files = IsSomeAnd (fin.get files keys) (λ bytes. HasRepeat (keys_of bytes))
 CommandRepeats (Ok (QueryOf index queries)) files = ⊥
+CommandRepeats (Ok (CheckOf index keys)) files = ⊥
+CommandRepeats (Ok (UpgradeOf index keys)) files = ⊥
 CommandRepeats (Ok (StatsOf index)) files = ⊥
 
 -- where the command is a build, its index is now the file of an index for the keys that the key file had
@@ -56,4 +66,6 @@ CommandBuilds (Ok (PilotsOf keys options)) files new = Unit {0}
 CommandBuilds (Ok (BuildOf keys index options)) files new =
     IsSomeAnd (fin.get files keys) (λ bytes. IsSomeAnd (contents new index) (IsFileFor options (keys_of bytes)))
 CommandBuilds (Ok (QueryOf index queries)) files new = Unit {0}
+CommandBuilds (Ok (CheckOf index keys)) files new = Unit {0}
+CommandBuilds (Ok (UpgradeOf index keys)) files new = Unit {0}
 CommandBuilds (Ok (StatsOf index)) files new = Unit {0}

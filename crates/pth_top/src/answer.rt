@@ -2,7 +2,7 @@
 ghost use Rattle.std.specs.Prelude.{◌≡◌, ◌≢◌, ◌≤◌, IsSome};
 ghost use Rattle.pth_top.specs.Statuses.{IsOfCommand};
 ghost use Rattle.pth_top.specs.declared.answer.Stop.TheVariants.{NoMemory as OutOfMemory};
-ghost use Rattle.pth_top.specs.declared.TheConstants.{WORDS_REFUSED, INDEX_REFUSED};
+ghost use Rattle.pth_top.specs.declared.TheConstants.{WORDS_REFUSED, CHECK_FAILED};
 
 use bucket_map::NoMemory;
 use std::alloc::AllocError;
@@ -22,7 +22,7 @@ pub struct Answer {
     pub file: Option<NewFile>,
     pub ghost own: { IsOfCommand status },
     pub ghost asked: { status ≢ WORDS_REFUSED },
-    pub ghost few: { status ≤ INDEX_REFUSED },
+    pub ghost few: { status ≤ CHECK_FAILED },
     pub ghost done: { IsSome file → status ≡ 0 },
 }
 

@@ -10,7 +10,7 @@ ghost use Rattle.pth_top.specs.Finishing.{KeepsBut};
 ghost use Rattle.pth_top.specs.Texts.{file_fault, no_memory};
 
 use crate::answer::{Answer, NewFile, Stop};
-use crate::{FAILED_OUTPUT, FILE_FAULT, INDEX_REFUSED, NO_MEMORY};
+use crate::{CHECK_FAILED, FAILED_OUTPUT, FILE_FAULT, NO_MEMORY};
 use pth_outside::{FileErr, Files, Sink, SinkErr};
 use std::alloc::{AllocError, Global};
 
@@ -136,7 +136,7 @@ fn give_up<O: Sink>(stop: Stop, out: &mut O) -> u8
 
 /// Hands a text over, and answers its status or that of a sink that failed or had no memory.
 pub fn show<O: Sink>(out: &mut O, status: u8, text: &[u8]) -> u8
-    requires { status ≤ INDEX_REFUSED }
+    requires { status ≤ CHECK_FAILED }
     ensures answers { (result ≡ status) ⊎ ((result ≡ FAILED_OUTPUT) ⊎ (result ≡ NO_MEMORY)) }
 
     ensures shown { result ≡ status → Prints text.now (O.state out.old) (O.state out.new) }

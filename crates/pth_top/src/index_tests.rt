@@ -9,7 +9,7 @@ use std::thread::Threads;
 use turn_search::FreeGate;
 
 // The index of one empty key with the settings by default.
-const INDEX: [u64; 20] = [
+pub(crate) const INDEX: [u64; 20] = [
     0x0003_0302_5848_5450,
     1,
     1,
@@ -33,7 +33,7 @@ const INDEX: [u64; 20] = [
 ];
 
 // The bytes of these numbers.
-fn bytes_of<R: AllocGlobal>(rt: &R, numbers: &[u64]) -> Result<Vec<u8>, Fail> {
+pub(crate) fn bytes_of<R: AllocGlobal>(rt: &R, numbers: &[u64]) -> Result<Vec<u8>, Fail> {
     let mut bytes = Vec::new(rt.alloc());
     for number in numbers {
         bytes.extend_from_slice(&number.to_le_bytes())?;
@@ -42,7 +42,7 @@ fn bytes_of<R: AllocGlobal>(rt: &R, numbers: &[u64]) -> Result<Vec<u8>, Fail> {
 }
 
 // A run of words over files K, I and Q, with the status, the text, and what I has afterwards.
-fn runs<R: Abort + AllocGlobal + Threads + Wait + Sync>(
+pub(crate) fn runs<R: Abort + AllocGlobal + Threads + Wait + Sync>(
     rt: &R,
     words: &[&str],
     files: &mut MemFiles,
@@ -60,7 +60,7 @@ fn runs<R: Abort + AllocGlobal + Threads + Wait + Sync>(
 }
 
 // Files K and I, and Q if there are queries.
-fn files_of<R: AllocGlobal>(
+pub(crate) fn files_of<R: AllocGlobal>(
     rt: &R,
     fails: Vec<u64>,
     keys: &[u8],

@@ -3,10 +3,14 @@
 
 mod answer;
 mod build;
+mod check;
+#[cfg(test)]
+mod check_tests;
 mod finish;
 #[cfg(test)]
 mod index_tests;
 mod lists;
+mod marks;
 mod pilots;
 mod query;
 mod read;
@@ -20,14 +24,19 @@ mod text;
 mod top;
 #[cfg(test)]
 mod turn_tests;
+mod upgrade;
+#[cfg(test)]
+mod upgrade_tests;
 mod values;
 
+pub use check::check_command;
 pub use command_words::{Command, Options, WordFault, WordsErr, read_words};
 pub use finish::show_want;
 pub use query::query_command;
 pub use settings::{Code, Encoding, How, Map, Settings, Shape};
 pub use stats::stats_command;
 pub use top::run;
+pub use upgrade::upgrade_command;
 
 // The statuses.
 const WORDS_REFUSED: u8 = 1;
@@ -41,6 +50,8 @@ const REPEATED_KEY: u8 = 4;
 const SEEDS_EXHAUSTED: u8 = 5;
 
 const INDEX_REFUSED: u8 = 6;
+
+const CHECK_FAILED: u8 = 7;
 
 const FAILED_OUTPUT: u8 = 8;
 

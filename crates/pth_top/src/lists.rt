@@ -102,7 +102,7 @@ fn build_all<R: Threads + Wait + Sync, G: Gate>(
 }
 
 // The refusal of a file with a line that is too long.
-fn too_long_answer(alloc: Global, number: u64) -> Result<Answer, AllocError>
+pub(crate) fn too_long_answer(alloc: Global, number: u64) -> Result<Answer, AllocError>
     ensures { IfOk result (λ answer. done_of answer ≡ too_long_result number) }
 {
     let text = too_long_text(alloc, number)?;

@@ -11,11 +11,13 @@ ghost use Rattle.pth_top.specs.Texts.{file_fault, no_memory};
 ghost use Rattle.pth_top.specs.Words.{refused, done, new_file, CommandBuilds, CommandRepeats};
 
 use crate::build::build_command;
+use crate::check::check_command;
 use crate::finish::{show, show_want};
 use crate::pilots::pilots_command;
 use crate::query::query_command;
 use crate::stats::stats_command;
 use crate::text::refused_word_text;
+use crate::upgrade::upgrade_command;
 use crate::{FAILED_OUTPUT, FILE_FAULT, NO_MEMORY, REPEATED_KEY, WORDS_REFUSED};
 use command_words::{Command, WordFault, WordsErr, read_words};
 use pth_outside::{Files, Sink};
@@ -111,6 +113,8 @@ fn run_words<R: Threads + Wait + Sync, F: Files, O: Sink, G: Gate>(
             },
         ) => build_command(rt, alloc, &keys, &index, &options, files, out, gate),
         Ok(Command::Query { index, queries }) => query_command(alloc, &index, &queries, files, out),
+        Ok(Command::Check { index, keys }) => check_command(alloc, &index, &keys, files, out),
+        Ok(Command::Upgrade { index, keys }) => upgrade_command(alloc, &index, &keys, files, out),
         Ok(Command::Stats { index }) => stats_command(alloc, &index, files, out),
         Err(WordsErr::Bad(fault)) => refuse(alloc, fault, out),
         Err(WordsErr::NoMemory) => show_want(out),
