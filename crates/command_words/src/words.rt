@@ -34,6 +34,9 @@ pub enum Command {
         index: String,
         keys: String,
     },
+    Stats {
+        index: String,
+    },
     Upgrade {
         index: String,
         keys: String,
@@ -45,9 +48,6 @@ pub enum Command {
 pub(crate) struct TwoNames {
     pub(crate) first: String,
     pub(crate) second: String,
-    Stats {
-        index: String,
-    },
 }
 
 // The name of a command.

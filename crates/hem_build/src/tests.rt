@@ -57,16 +57,6 @@ const SEARCHES: [How; 7] = [
     How::Turns(7),
 ];
 
-// The searches without turns of several workers. A turn waits until its thread is run, which takes long for many buckets where
-// other programs run.
-const WITHOUT_TURNS: [How; 5] = [
-    How::Alone,
-    How::Rounds(1),
-    How::Rounds(2),
-    How::Rounds(7),
-    How::Turns(1),
-];
-
 // The keys k0, k1 and so on, this many.
 fn numbered<R: Abort + AllocGlobal>(rt: &R, count: u64) -> Result<KeyList, Fail> {
     let mut keys = KeyList::new(rt.alloc());
@@ -137,18 +127,11 @@ fn stuck_seeds_have_their_first_stuck_partition(rt: HostRuntime) -> Result<(), F
             1500,
             1,
             3,
-            &WITHOUT_TURNS,
+            &SEARCHES,
             &[4, 9, 4],
             &[(0, 459), (0, 257), (0, 459)],
         ),
-        (
-            1500,
-            1,
-            1,
-            &WITHOUT_TURNS,
-            &[1, 2, 3, 4, 5, 6, 7, 8],
-            &ONE_PILOT,
-        ),
+        (1500, 1, 1, &SEARCHES, &[1, 2, 3, 4, 5, 6, 7, 8], &ONE_PILOT),
     ] {
         let keys = numbered(&rt, count)?;
         for &how in searches {
@@ -190,14 +173,14 @@ fn keys_have_their_values(rt: HostRuntime) -> Result<(), Fail> {
             20_000,
             1,
             SKEWED,
-            &WITHOUT_TURNS,
+            &SEARCHES,
             [7333, 19_915, 1505, 12_866, 16_462, 18_707, 12_218, 9518],
         ),
         (
             20_000,
             16,
             SKEWED,
-            &WITHOUT_TURNS,
+            &SEARCHES,
             [4603, 9988, 9329, 14_770, 2404, 12_419, 3812, 3865],
         ),
     ] {
