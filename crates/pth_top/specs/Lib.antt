@@ -6,6 +6,7 @@ pub mod Pilots
 pub mod Build
 pub mod Query
 pub mod Stats
+pub mod Demo
 pub mod Words
 pub mod Ending
 pub mod Finishing

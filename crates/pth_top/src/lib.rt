@@ -3,6 +3,9 @@
 
 mod answer;
 mod build;
+mod demo;
+#[cfg(test)]
+mod demo_tests;
 mod finish;
 #[cfg(test)]
 mod index_tests;

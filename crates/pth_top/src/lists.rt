@@ -67,8 +67,8 @@ pub fn build_list<R: Threads + Sync, F: Files>(
     }
 }
 
-// The index of some keys, or the refusal that they and the settings deserve.
-fn build_all<R: Threads + Sync>(
+/// The index of some keys, or the refusal that they and the settings deserve.
+pub fn build_all<R: Threads + Sync>(
     rt: &R,
     alloc: Global,
     keys: &KeyList,

@@ -11,6 +11,7 @@ ghost use Rattle.pth_top.specs.Texts.{file_fault, no_memory};
 ghost use Rattle.pth_top.specs.Words.{refused, done, new_file, CommandBuilds, CommandRepeats};
 
 use crate::build::build_command;
+use crate::demo::demo_command;
 use crate::finish::{show, show_want};
 use crate::pilots::pilots_command;
 use crate::query::query_command;
@@ -108,6 +109,7 @@ fn run_words<R: Threads + Sync, F: Files, O: Sink>(
         ) => build_command(rt, alloc, &keys, &index, &options, files, out),
         Ok(Command::Query { index, queries }) => query_command(alloc, &index, &queries, files, out),
         Ok(Command::Stats { index }) => stats_command(alloc, &index, files, out),
+        Ok(Command::Demo(keys)) => demo_command(rt, alloc, keys, files, out),
         Err(WordsErr::Bad(fault)) => refuse(alloc, fault, out),
         Err(WordsErr::NoMemory) => show_want(out),
     }
