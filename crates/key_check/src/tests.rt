@@ -236,47 +236,66 @@ fn lists_of_the_keys_end_as_by_an_independent_program(rt: HostRuntime) -> Result
     of_its_keys(&rt, &FORTY, 64)
 }
 
+const EMPTY_KEY: [&str; 1] = [""];
+
+// Keys, the number of partitions of their index, other lines, and what the check of these comes to.
+const OTHER_LISTS: [(&[&str], u32, &[u8], Checked); 11] = [
+    (&EMPTY_KEY, 1, b"", Checked::Counts { n: 1, lines: 0 }),
+    (
+        &EMPTY_KEY,
+        1,
+        LETTERS,
+        Checked::Repeats {
+            line: 2,
+            earlier: 1,
+        },
+    ),
+    (
+        &EMPTY_KEY,
+        1,
+        b"\n\n",
+        Checked::Repeats {
+            line: 2,
+            earlier: 1,
+        },
+    ),
+    (&EMPTY_KEY, 8, LETTERS, Checked::NoValue { line: 1 }),
+    (
+        &EMPTY_KEY,
+        8,
+        b"\n\n",
+        Checked::Repeats {
+            line: 2,
+            earlier: 1,
+        },
+    ),
+    (&FIVE, 1, b"x\n", Checked::Counts { n: 5, lines: 1 }),
+    (
+        &FIVE,
+        1,
+        LETTERS,
+        Checked::Repeats {
+            line: 4,
+            earlier: 2,
+        },
+    ),
+    (&TWENTY_ONE, 4, b"x\n", Checked::Counts { n: 21, lines: 1 }),
+    (
+        &TWENTY_ONE,
+        4,
+        LETTERS,
+        Checked::Repeats {
+            line: 3,
+            earlier: 2,
+        },
+    ),
+    (&FORTY, 64, b"x\n", Checked::NoValue { line: 1 }),
+    (&FORTY, 64, LETTERS, Checked::NoValue { line: 1 }),
+];
+
 #[test]
 fn other_lists_end_as_by_an_independent_program(rt: HostRuntime) -> Result<(), Fail> {
-    let twice = Checked::Repeats {
-        line: 2,
-        earlier: 1,
-    };
-    let none = Checked::NoValue { line: 1 };
-    for (keys, parts, lines, want) in [
-        (
-            [""].as_slice(),
-            1,
-            b"".as_slice(),
-            Checked::Counts { n: 1, lines: 0 },
-        ),
-        (&[""], 1, LETTERS, twice),
-        (&[""], 1, b"\n\n", twice),
-        (&[""], 8, LETTERS, none),
-        (&[""], 8, b"\n\n", twice),
-        (&FIVE, 1, b"x\n", Checked::Counts { n: 5, lines: 1 }),
-        (
-            &FIVE,
-            1,
-            LETTERS,
-            Checked::Repeats {
-                line: 4,
-                earlier: 2,
-            },
-        ),
-        (&TWENTY_ONE, 4, b"x\n", Checked::Counts { n: 21, lines: 1 }),
-        (
-            &TWENTY_ONE,
-            4,
-            LETTERS,
-            Checked::Repeats {
-                line: 3,
-                earlier: 2,
-            },
-        ),
-        (&FORTY, 64, b"x\n", none),
-        (&FORTY, 64, LETTERS, none),
-    ] {
+    for (keys, parts, lines, want) in OTHER_LISTS {
         let mut all = Vec::new(rt.alloc());
         put_lines(&mut all, keys)?;
         ends(&rt, &all, parts, lines, want)?;
