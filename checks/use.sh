@@ -44,8 +44,9 @@ keys() { # PREFIX
 keys old >old.keys
 keys new >new.keys
 check "a build" "$(status build old.keys old)" 0
+# by one worker, so that a build takes about as long each time
 begun=$(date +%s%N)
-check "a build" "$(status build new.keys new)" 0
+check "a build" "$(status build new.keys new workers=1)" 0
 took=$((($(date +%s%N) - begun) / 1000))
 check "a summary" "$(cut -d' ' -f1-3 text)" "built keys $count"
 check "the length of the file" "$(cut -d' ' -f9 text)" "$(wc -c <new | tr -d ' ')"
@@ -70,7 +71,7 @@ left=0
 for ((round = 0; round < rounds; round++)); do
   cp old I
   rm -f I.tmp
-  "$program" build new.keys I >/dev/null 2>&1 &
+  "$program" build new.keys I workers=1 >/dev/null 2>&1 &
   pid=$!
   moment=$(((RANDOM * 32768 + RANDOM) % (took + took / 8)))
   sleep "$(printf '%d.%06d' $((moment / 1000000)) $((moment % 1000000)))"
