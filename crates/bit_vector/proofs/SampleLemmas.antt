@@ -13,7 +13,7 @@ use Rattle.std.proofs.lemmas.Nat.Bits.{bit_at-suc, bit_at_lowest, bit_at-trailin
 use Rattle.std.proofs.lemmas.List.{get_or_append_left, get_or_push, length_push}
 use Rattle.std.proofs.lemmas.List.Sums.{sum_by-cons, sum_by-take-le, sum_by_more}
 use Rattle.bit_vector.specs.Bits.{number_of, words_number, words_from, words_for, packed, ones, places}
-use Rattle.bit_vector.specs.Samples.{all_ones, IsOneAt}
+use Rattle.bit_vector.specs.Samples.{all_ones, IsInWord, IsOneAt, IsPassed, IsSampled}
 use Rattle.std.proofs.lemmas.List.{take_all}
 use Rattle.bit_vector.proofs.PackLemmas.{below_from_div}
 use Rattle.bit_vector.proofs.BitLemmas.{half-mod, take-bits_of, bits_of-number_of, number_of-lt, ones-bits_of, get_or-bits_of, length-places_from}
@@ -92,11 +92,11 @@ one_among ws w q r i p h lt less here e at =
 
 -- the counts that are due before a word
 pub record IsSoFar (words counts : List ℕ) (at : ℕ) : Type 0 where
-  pub len : length counts ≡ (at + 7) / 8
-  pub before : (b : ℕ) → b < length counts → get_or counts b 0 ≡ all_ones (take (8 * b) words)
+  pub len : length counts ≡ (at + 15) / 16
+  pub before : (b : ℕ) → b < length counts → get_or counts b 0 ≡ all_ones (take (16 * b) words)
 
 -- at the first word of a block a count is due
-pub count_pushed : (words counts new : List ℕ) (at total : ℕ) → at % 8 ≡ 0 → IsSoFar words counts at → total ≡ all_ones (take at words) →
+pub count_pushed : (words counts new : List ℕ) (at total : ℕ) → at % 16 ≡ 0 → IsSoFar words counts at → total ≡ all_ones (take at words) →
     new ≡ counts ++ total ∷ [] → IsSoFar words new (at + 1)
 count_pushed words counts new at total even so_far t e =
     let longer = length_push counts total in
@@ -106,14 +106,14 @@ count_pushed words counts new at total even so_far t e =
         | inl old ↦ get_or_append_left counts (total ∷ []) 0 b old ∙ so_far.before b old
         | inr last ↦
             let same : length counts ≡ b = omega (arith, longer) in
-            let place : at ≡ 8 * b = omega (arith, so_far.len) in
+            let place : at ≡ 16 * b = omega (arith, so_far.len) in
             get_or_push counts total 0 b same ∙ t ∙ ap (λ (k : ℕ). all_ones (take k words)) place
       ];
     } in
     subst (λ (l : List ℕ). IsSoFar words l (at + 1)) (sym e) more
 
 -- at any other word none is
-pub count_kept : (words counts : List ℕ) (at : ℕ) → (at % 8 ≡ 0 → ⊥) → IsSoFar words counts at → IsSoFar words counts (at + 1)
+pub count_kept : (words counts : List ℕ) (at : ℕ) → (at % 16 ≡ 0 → ⊥) → IsSoFar words counts at → IsSoFar words counts (at + 1)
 count_kept words counts at odd so_far = record { len = omega (arith, so_far.len); before = so_far.before }
 
 -- ---- packed bits
@@ -250,38 +250,83 @@ ones_all ws at h le past =
     let whole = ap (λ (k : ℕ). all_ones (take k ws)) count ∙ ap all_ones (take_all (length ws) ws (omega arith)) in
     omega (arith, ones_below_place ws at h le, above, whole)
 
--- ---- one half of a word
+-- ---- one quarter of what is left of a word
 
--- bits that are passed, with the ones among them, so that a one is left in what follows
-pub record IsPassed (rest left span half skip ones : ℕ) : Type 0 where
-  pub ones_are : ones ≡ count_ones (rest % 2 ^ skip)
-  pub within : skip ≤ half
-  pub enough : ones ≤ left
-  pub here : left < count_ones (rest % 2 ^ (span - half + skip))
+-- nothing is passed
+pub none_passed : (rest left size : ℕ) → left < count_ones (rest % 2 ^ size) → IsPassed rest left size 0 0
+none_passed rest left size here =
+    let same : size + 0 ≡ size = omega arith in record {
+  ones_are = sym (ap count_ones (mod-one rest) ∙ no_ones);
+  within = omega arith;
+  enough = omega arith;
+  here = omega (arith, here, ap (λ (j : ℕ). count_ones (rest % 2 ^ j)) same);
+}
 
--- the lower half is passed where the one is not in it
-pub half_passed : (rest left span low : ℕ) (r : ℕ × ℕ) → 1 < span → low ≡ count_ones (rest % 2 ^ (span / 2)) →
-    left < count_ones (rest % 2 ^ span) →
-    ((left < low) × (r ≡ (0, 0))) ⊎ ((low ≤ left) × (r ≡ (span / 2, low))) → IsPassed rest left span (span / 2) r.0 r.1
-half_passed rest left span low r some low_is here choice =
-    let half = span / 2 in
-    elim choice [
-      | inl p ↦
-          let parts : span - half + 0 ≡ (span - half - half) + half = omega arith in
-          let more = ap (λ (j : ℕ). count_ones (rest % 2 ^ j)) parts ∙ ones_cut rest (span - half - half) half in
-          subst (λ (q : ℕ × ℕ). IsPassed rest left span half q.0 q.1) (sym p.1) (record {
-            ones_are = sym (ap count_ones (mod-one rest) ∙ no_ones);
-            within = omega arith;
-            enough = omega arith;
-            here = omega (arith, more, low_is, p.0);
-          })
-      | inr p ↦
-          let parts : span - half + half ≡ span = omega arith in
-          let same = ap (λ (j : ℕ). count_ones (rest % 2 ^ j)) parts in
-          subst (λ (q : ℕ × ℕ). IsPassed rest left span half q.0 q.1) (sym p.1) (record {
-            ones_are = low_is;
-            within = omega arith;
-            enough = p.0;
-            here = omega (arith, same, here);
-          })
+-- some quarters are passed, up to a place
+pub some_passed : (rest left size skip next : ℕ) → skip ≤ 3 * size → next ≡ size + skip →
+    count_ones (rest % 2 ^ skip) ≤ left → left < count_ones (rest % 2 ^ next) → IsPassed rest left size skip (count_ones (rest % 2 ^ skip))
+some_passed rest left size skip next within is enough here = record {
+  ones_are = refl;
+  within = within;
+  enough = enough;
+  here = subst (λ (j : ℕ). left < count_ones (rest % 2 ^ j)) is here;
+}
+
+-- a quarter of a span is the span before
+pub quartered : (span : ℕ) → 1 < span → (span ≡ 64) ⊎ ((span ≡ 16) ⊎ ((span ≡ 4) ⊎ (span ≡ 1))) →
+    (4 * (span / 4) ≡ span) × ((span / 4 ≡ 64) ⊎ ((span / 4 ≡ 16) ⊎ ((span / 4 ≡ 4) ⊎ (span / 4 ≡ 1))))
+quartered span some power =
+    elim power [
+      | inl e ↦ (omega (arith, e), inr (inl (omega (arith, e))))
+      | inr less ↦ elim less [
+        | inl e ↦ (omega (arith, e), inr (inr (inl (omega (arith, e)))))
+        | inr least ↦ elim least [
+          | inl e ↦ (omega (arith, e), inr (inr (inr (omega (arith, e)))))
+          | inr e ↦ absurd (omega (arith, some, e))
+        ]
+      ]
     ]
+
+-- ---- samples
+
+-- a sample leads to a one behind it
+pub from_sample : (words samples : List ℕ) (i left at : ℕ) → IsSampled words samples → i < all_ones words →
+    IsInWord words (all_ones (take (get_or samples (i / 128) 0 / 64) words) + (i % 128 + get_or samples (i / 128) 0 % 64)) at left →
+    IsInWord words i at left
+from_sample words samples i left at sampled lt found =
+    let within : i / 128 < length samples = omega (arith, sampled.enough, lt) in
+    let number = sampled.number (i / 128) within in
+    record { within = found.within; number = omega (arith, found.number, number); here = found.here }
+
+-- the ones that are noted before a word
+pub record IsNoted (words samples : List ℕ) (at : ℕ) : Type 0 where
+  pub within : (j : ℕ) → j < length samples → get_or samples j 0 / 64 < at
+  pub number : (j : ℕ) → j < length samples → all_ones (take (get_or samples j 0 / 64) words) + get_or samples j 0 % 64 ≡ 128 * j
+
+-- one more is noted, in that word
+pub one_noted : (words samples new : List ℕ) (at total next sample : ℕ) → IsNoted words samples at → total ≡ all_ones (take at words) →
+    next ≡ 128 * length samples → total ≤ next → next < total + 64 → sample ≡ 64 * at + (next - total) → new ≡ samples ++ sample ∷ [] →
+    IsNoted words new (at + 1)
+one_noted words samples new at total next sample noted t n due soon s e =
+    let longer = length_push samples sample in
+    let more : IsNoted words (samples ++ sample ∷ []) (at + 1) = record {
+      within = λ j lt. elim (cases_lt j (length samples)) [
+        | inl old ↦ omega (arith, get_or_append_left samples (sample ∷ []) 0 j old, noted.within j old)
+        | inr last ↦
+            let same : length samples ≡ j = omega (arith, longer) in
+            omega (arith, get_or_push samples sample 0 j same, s)
+      ];
+      number = λ j lt. elim (cases_lt j (length samples)) [
+        | inl old ↦ rw (get_or_append_left samples (sample ∷ []) 0 j old) (noted.number j old)
+        | inr last ↦
+            let same : length samples ≡ j = omega (arith, longer) in
+            let word : sample / 64 ≡ at = omega (arith, s) in
+            let rest : sample % 64 ≡ next - total = omega (arith, s) in
+            rw (get_or_push samples sample 0 j same, word, rest) (omega (arith, t, n, due, same))
+      ];
+    } in
+    subst (λ (l : List ℕ). IsNoted words l (at + 1)) (sym e) more
+
+-- none is noted in a word
+pub none_noted : (words samples : List ℕ) (at : ℕ) → IsNoted words samples at → IsNoted words samples (at + 1)
+none_noted words samples at noted = record { within = λ j lt. omega (arith, noted.within j lt); number = noted.number }

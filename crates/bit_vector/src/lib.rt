@@ -11,9 +11,11 @@ pub use select::Selector;
 pub use words::{append_fields, bits_at, is_packed};
 
 // How many words a count of the ones before them stands for.
-const BLOCK: usize = 8;
-// How many ones a block is noted for.
-const STEP: u64 = 512;
+const BLOCK: usize = 16;
+// Each so many ones the place of one is noted.
+const STEP: u64 = 128;
+// How many words are looked at from a noted place on, before the counts are asked.
+const NEAR: usize = 8;
 
 #[cfg(test)]
 mod tests;

@@ -1,13 +1,13 @@
 // Counts and places of ones, with samples that bound the walk over the words.
-ghost use Rattle.std.specs.Prelude.{◌≡◌, ℕ, ◌+◌, ◌*◌, ◌%◌, ◌^◌, ◌<◌, ◌≤◌, ◌⊎◌, length, take, slice_index, IfOk};
-ghost use Rattle.std.specs.Prelude.{MatchOption};
+ghost use Rattle.std.specs.Prelude.{◌≡◌, ◌+◌, ◌*◌, ◌%◌, ◌^◌, ◌<◌, ◌≤◌, length, take, slice_index, IfOk};
+ghost use Rattle.std.specs.Prelude.{IfSome, MatchOption, None};
 ghost use Rattle.std.specs.Int.RustNames.{count_ones};
 ghost use Rattle.bit_vector.specs.Bits.{words_number};
-ghost use Rattle.bit_vector.specs.Samples.{all_ones, IsCounted, IsHinted, IsOneAt};
+ghost use Rattle.bit_vector.specs.Samples.{all_ones, IsCounted, IsInWord, IsOneAt, IsPassed, IsSampled};
 
 use crate::bits::NoMemory;
 use crate::words::low_bits;
-use crate::{BLOCK, STEP};
+use crate::{BLOCK, NEAR, STEP};
 use std::alloc::Global;
 
 /// The ones before each block of words, and at the end all of them.
@@ -27,26 +27,24 @@ pub fn counts_of(alloc: Global, words: &[u64]) -> Result<Vec<u64>, NoMemory>
     Ok(counts)
 }
 
-/// The block of every so many ones.
-pub fn hints_of(alloc: Global, counts: &[u64]) -> Result<Vec<usize>, NoMemory>
-    requires some { 0 < length counts.now }
-    requires none_before { slice_index counts.now 0 ≡ 0 }
-    requires most { (b : ℕ) → slice_index counts.now b ≤ 2 ^ 42 }
-    ensures { IfOk result (λ v. IsHinted v.items counts.now) }
+/// For each so many of the ones the word that has it and its number there: 64 times the one and the other.
+pub fn samples_of(alloc: Global, words: &[u64], ones: u64) -> Result<Vec<u64>, NoMemory>
+    requires { length words.now ≤ 2 ^ 36 }
+    ensures { IfOk result (λ v. IsSampled words.now v.items) }
 {
-    let ones = counts[counts.len() - 1];
-    let mut hints = Vec::with_capacity(alloc, ones.div_ceil(STEP) as usize)?;
+    let mut samples = Vec::with_capacity(alloc, ones.div_ceil(STEP) as usize)?;
+    // The ones so far, and the number of the next one that is noted.
+    let mut total = 0;
     let mut next = 0;
-    let mut block = 0;
-    while block + 1 < counts.len() {
-        if next < counts[block + 1] {
-            hints.push(block)?;
+    for (at, word) in words.iter().enumerate() {
+        let here = u64::from(word.count_ones());
+        if next < total + here {
+            samples.push(64 * at as u64 + (next - total))?;
             next += STEP;
-        } else {
-            block += 1;
         }
+        total += here;
     }
-    Ok(hints)
+    Ok(samples)
 }
 
 /// The ones below a place.
@@ -69,41 +67,15 @@ pub fn ones_below(words: &[u64], counts: &[u64], at: usize) -> u64
     below + u64::from(low_bits(words[word], used).count_ones())
 }
 
-// A block to begin at: it doesn't begin behind that one.
-fn first_block(hints: &[usize], counts: &[u64], i: u64) -> usize
-    requires hinted { IsHinted hints.now counts.now }
+// The last block that doesn't begin behind a one.
+fn block_before(counts: &[u64], i: u64) -> usize
     requires some { 0 < length counts.now }
     requires none_before { slice_index counts.now 0 ≡ 0 }
     ensures within { result < length counts.now }
     ensures before { slice_index counts.now result ≤ i }
 {
-    let hint = (i / STEP) as usize;
-    if hint < hints.len() { hints[hint] } else { 0 }
-}
-
-// A block behind that one.
-fn end_block(hints: &[usize], counts: &[u64], i: u64) -> usize
-    requires { IsHinted hints.now counts.now }
-    ensures { result ≤ length counts.now }
-{
-    let hint = (i / STEP) as usize + 1;
-    if hint < hints.len() {
-        hints[hint] + 1
-    } else {
-        counts.len()
-    }
-}
-
-// The last block before an end that doesn't begin behind a one.
-fn block_before(counts: &[u64], first: usize, end: usize, i: u64) -> usize
-    requires first_in { first < length counts.now }
-    requires end_in { end ≤ length counts.now }
-    requires before { slice_index counts.now first ≤ i }
-    ensures within { result < length counts.now }
-    ensures before { slice_index counts.now result ≤ i }
-{
-    let mut low = first;
-    let mut high = end;
+    let mut low = 0;
+    let mut high = counts.len();
     while low + 1 < high {
         let middle = low + (high - low) / 2;
         if counts[middle] <= i {
@@ -115,35 +87,59 @@ fn block_before(counts: &[u64], first: usize, end: usize, i: u64) -> usize
     low
 }
 
-// The word of a one that is counted from a word on, and its number in that word.
-fn word_of_one(words: &[u64], from: usize, i: u64) -> (usize, u32)
-    requires from_in { from ≤ length words.now }
-    requires some { all_ones (take from words.now) + i < all_ones words.now }
-    ensures within { result.0 < length words.now }
-    ensures number { all_ones (take result.0 words.now) + result.1
-        ≡ all_ones (take from words.now) + i }
-    ensures here { result.1 < count_ones (slice_index words.now result.0) }
+// The word of a one that is counted from a word on, and its number in that word, if it is before an end.
+fn word_of_one(words: &[u64], from: usize, end: usize, i: u64) -> Option<(usize, u32)>
+    requires from_in { from ≤ end }
+    requires end_in { end ≤ length words.now }
+    ensures some { IfSome result (λ x. IsInWord words.now
+        (all_ones (take from words.now) + i) x.0 x.1) }
+    ensures none { result ≡ None → all_ones (take end words.now)
+        ≤ all_ones (take from words.now) + i }
 {
     let mut left = i;
-    for at in from..words.len() {
+    for at in from..end {
         let here = words[at].count_ones();
         if left < u64::from(here) {
-            return (at, left as u32);
+            return Some((at, left as u32));
         }
         left -= u64::from(here);
     }
-    unreachable!()
+    None
 }
 
-// How many bits to pass, and the ones among them: the lower half where that one is not in it.
-fn passed(left: u32, low: u32, half: u32) -> (u32, u32)
-    ensures { ((left < low) × (result ≡ (0, 0)))
-        ⊎ ((low ≤ left) × (result ≡ (half, low))) }
+// A one by the counts: however long no one comes, it takes few steps.
+fn word_by_counts(words: &[u64], counts: &[u64], i: u64) -> (usize, u32)
+    requires counted { IsCounted words.now counts.now }
+    requires within { i < all_ones words.now }
+    requires most { length words.now ≤ 2 ^ 36 }
+    ensures { IsInWord words.now i result.0 result.1 }
 {
-    if left < low { (0, 0) } else { (half, low) }
+    let block = block_before(counts, i);
+    word_of_one(words, BLOCK * block, words.len(), i - counts[block]).unwrap()
 }
 
-// The place of a one in a word, by halves and without a branch.
+// How many bits to pass, and the ones among them, so that a one is in the next quarter.
+fn passed(rest: u64, left: u32, quarter: u32) -> (u32, u32)
+    requires span { 4 * quarter ≤ 64 }
+    requires here { left < count_ones (rest % 2 ^ (4 * quarter)) }
+    ensures { IsPassed rest left quarter result.0 result.1 }
+{
+    let first = low_bits(rest, quarter).count_ones();
+    let half = low_bits(rest, 2 * quarter).count_ones();
+    let third = low_bits(rest, 3 * quarter).count_ones();
+    let (skip, ones, next) = if left < half {
+        (0, 0, first)
+    } else {
+        (2 * quarter, half, third)
+    };
+    if left < next {
+        (skip, ones)
+    } else {
+        (skip + quarter, next)
+    }
+}
+
+// The place of a one in a word, by quarters and without a branch.
 fn place_in(word: u64, i: u32) -> u32
     requires { i < count_ones word }
     ensures within { result < 64 }
@@ -154,20 +150,19 @@ fn place_in(word: u64, i: u32) -> u32
     let mut place = 0;
     let mut span = 64;
     while span > 1 {
-        let half = span / 2;
-        let (skip, ones) = passed(left, low_bits(rest, half).count_ones(), half);
+        span /= 4;
+        let (skip, ones) = passed(rest, left, span);
         left -= ones;
         rest >>= skip;
         place += skip;
-        span -= half;
     }
     place
 }
 
 /// The place of a one, `None` if there are not so many.
-pub fn place_of(words: &[u64], counts: &[u64], hints: &[usize], i: u64) -> Option<u64>
+pub fn place_of(words: &[u64], counts: &[u64], samples: &[u64], i: u64) -> Option<u64>
     requires counted { IsCounted words.now counts.now }
-    requires hinted { IsHinted hints.now counts.now }
+    requires sampled { IsSampled words.now samples.now }
     requires most { length words.now ≤ 2 ^ 36 }
     ensures { MatchOption result (all_ones words.now ≤ i)
         (λ p. IsOneAt (words_number words.now) i p) }
@@ -175,10 +170,13 @@ pub fn place_of(words: &[u64], counts: &[u64], hints: &[usize], i: u64) -> Optio
     if i >= counts[counts.len() - 1] {
         return None;
     }
-    let first = first_block(hints, counts, i);
-    let end = end_block(hints, counts, i);
-    let block = block_before(counts, first, end, i);
-    let (word, left) = word_of_one(words, BLOCK * block, i - counts[block]);
+    let sample = samples[(i / STEP) as usize];
+    let from = (sample / 64) as usize;
+    let end = (from + NEAR).min(words.len());
+    let (word, left) = match word_of_one(words, from, end, i % STEP + sample % 64) {
+        Some(found) => found,
+        None => word_by_counts(words, counts, i),
+    };
     Some(64 * word as u64 + u64::from(place_in(words[word], left)))
 }
 

@@ -4,7 +4,7 @@ ghost use Rattle.std.specs.List.{slice_get};
 ghost use Rattle.bit_vector.specs.Bits.{ones, places};
 
 use crate::bits::{BitVec, NoMemory};
-use crate::samples::{counts_of, hints_of, next_one, ones_below, place_of};
+use crate::samples::{counts_of, next_one, ones_below, place_of, samples_of};
 use std::alloc::Global;
 use std::marker::Model;
 
@@ -13,20 +13,20 @@ use std::marker::Model;
 pub struct Selector {
     bits: BitVec,
     counts: Vec<u64>,
-    hints: Vec<usize>,
+    samples: Vec<u64>,
 }
 
 impl Model for Selector {
     ghost use Rattle.std.specs.Prelude.{◌^◌, ◌≤◌, List, Bool, length};
     ghost use Rattle.bit_vector.specs.Bits.{packed};
-    ghost use Rattle.bit_vector.specs.Samples.{IsCounted, IsHinted};
+    ghost use Rattle.bit_vector.specs.Samples.{IsCounted, IsSampled};
 
     ghost Value = { List Bool };
 
     ghost view = { λ s. s.bits };
 
     ghost invariant = { λ s. IsCounted (packed s.bits) s.counts.items
-        × IsHinted s.hints.items s.counts.items × (length s.bits ≤ 2 ^ 42) };
+        × IsSampled (packed s.bits) s.samples.items × (length s.bits ≤ 2 ^ 42) };
 }
 
 impl Selector {
@@ -35,11 +35,11 @@ impl Selector {
         ensures { IfOk result (λ s. s ≡ bits) }
     {
         let counts = counts_of(alloc, bits.words())?;
-        let hints = hints_of(alloc, &counts)?;
+        let samples = samples_of(alloc, bits.words(), counts[counts.len() - 1])?;
         Ok(Selector {
             bits,
             counts,
-            hints,
+            samples,
         })
     }
 
@@ -47,7 +47,7 @@ impl Selector {
     pub fn select1(&self, i: u64) -> Option<u64>
         ensures { result ≡ slice_get (places self.now) i }
     {
-        place_of(self.bits.words(), &self.counts, &self.hints, i)
+        place_of(self.bits.words(), &self.counts, &self.samples, i)
     }
 
     /// The place of the first one from a place on: after the one with a number, the next one.

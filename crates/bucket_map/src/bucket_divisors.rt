@@ -62,11 +62,12 @@ impl BucketDivisors {
         ensures value { result ≡ skewed_bucket_of a self.now }
         ensures below { result < self.now }
     {
-        let front_count = self.front_count;
-        if a < FRONT_HASHES && front_count > 0 {
-            self.front.remainder(a)
+        // The divisor is chosen before it is used: which one it is can't be foreseen, so no branch is to hang on it.
+        let (before, divisor) = if a < FRONT_HASHES && self.front_count > 0 {
+            (0, &self.front)
         } else {
-            front_count + self.back.remainder(a)
-        }
+            (self.front_count, &self.back)
+        };
+        before + divisor.remainder(a)
     }
 }

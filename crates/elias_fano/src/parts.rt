@@ -80,7 +80,8 @@ pub fn two_parts(
 fn is_below(here: u64, low_here: u64, before: u64, low_before: u64) -> bool
     ensures { IsTrue result ↔ (here < before) ⊎ ((here ≡ before) × (low_here < low_before)) }
 {
-    here < before || here == before && low_here < low_before
+    // No branch hangs on which of the two it is.
+    (here < before) | ((here == before) & (low_here < low_before))
 }
 
 /// Whether no value is below the one before it, by one walk over the high bits.

@@ -155,11 +155,13 @@ fn get_of(front: &Part, back: &Part, i: u64) -> Option<u64>
     ensures { result ≡ slice_get (values_of front.now ++ values_of back.now) i }
 {
     let first = part_len(front);
-    if i < first {
-        part_get(front, i)
+    // The part is chosen before it is read: which one it is can't be foreseen, so no branch is to hang on it.
+    let (part, at) = if i < first {
+        (front, i)
     } else {
-        part_get(back, i - first)
-    }
+        (back, i - first)
+    };
+    part_get(part, at)
 }
 
 // How many values at the front of two parts are below a bound.

@@ -1,4 +1,4 @@
-use Rattle.std.proofs.Common.{◌+◌, ◌<◌, ◌^◌, sym, arith}
+use Rattle.std.proofs.Common.{arith}
 use Rattle.bit_vector.proofs.SampleLemmas.{one_among}
 use Rattle.bit_vector.proofs.samples.first_one.Goals as goal
 

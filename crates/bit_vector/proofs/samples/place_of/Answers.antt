@@ -1,16 +1,27 @@
-use Rattle.std.proofs.Common.{◌≡◌, ◌+◌, take, arith}
-use Rattle.bit_vector.specs.Samples.{all_ones}
-use Rattle.bit_vector.proofs.SampleLemmas.{one_among}
+use Rattle.std.proofs.Common.{◌*◌, ◌-◌, ◌<◌, length, arith}
+use Rattle.std.specs.Int.RustNames.{count_ones}
+use Rattle.std.proofs.lemmas.List.Sums.{sum_by-take-le}
+use Rattle.bit_vector.specs.Samples.{all_ones, IsInWord}
+use Rattle.bit_vector.proofs.SampleLemmas.{one_among, from_sample}
 use Rattle.bit_vector.proofs.samples.place_of.Goals as goal
+use Rattle.bit_vector.proofs.samples.place_of.Goals.{in-Some, in-None}
 
 pub returns : goal.returns
 returns c =
     let words = c.args.words.now in
-    let found = c.word_of_one-word in
-    let before = c.requires.counted.before c.block_before-block.result c.block_before-block.ensures.within in
-    let number : all_ones (take found.result.0 words) + found.result.1 ≡ c.args.i =
-    omega (arith, found.ensures.number, before, c.block_before-block.ensures.before) in
-    one_among words found.result.0 c.place_in.result found.result.1 c.args.i _ (λ i. omega (
+    let last = length c.args.counts.now - 1 in
+    let counted = c.requires.counted in
+    let few : c.args.i < all_ones words = omega (
+      arith,
+      c.if-i-counts.false,
+      counted.before last (omega (arith, counted.len)),
+      sum_by-take-le count_ones words (16 * last),
+    ) in
+    let found : IsInWord words c.args.i c.match-word_of_one.word.0 c.match-word_of_one.word.1 = elim c.match-word_of_one.branch [
+      | in-Some w ↦ rw w.word-is (from_sample words c.args.samples.now c.args.i _ _ c.requires.sampled few (w.in-Some.ensures.some))
+      | in-None w ↦ rw w.word-is w.word_by_counts.ensures
+    ] in
+    one_among words c.match-word_of_one.word.0 c.place_in.result c.match-word_of_one.word.1 c.args.i _ (λ i. omega (
       arith,
       c.type_inv.words i,
-    )) found.ensures.within c.place_in.ensures.within c.place_in.ensures.place number (omega (arith, c.from.ensures))
+    )) found.within c.place_in.ensures.within c.place_in.ensures.place found.number (omega (arith, c.from.ensures))
