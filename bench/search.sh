@@ -1,5 +1,5 @@
 #!/usr/bin/env bash
-# Times the search in all its parts beside plain Rust of the shape that is fastest, in turn, and prints four tables. Each figure
+# Times the search in all its parts beside plain Rust of the shape that is fastest, in turn, and prints five tables. Each figure
 # is the least of three runs, or of as many as the first word says. Checksums must agree. It takes a few minutes, and with the word `tight` after the runs some more.
 . "$(dirname "$0")/compare.sh"
 begin "${1:-}" bench_search search.rs
@@ -44,6 +44,22 @@ rounds() {
         }'
 }
 
+# one row on a search alone and by turns: what is searched, the end of the names of its parts, and its count
+turns() {
+    times "$3" "place$2" "turns1$2" "turns2$2" "turns4$2" | awk -v name="$1" '
+        NR == 1 { sum = $3 }
+        $3 != sum { differ = 1 }
+        { part = $1; sub(/_.*/, "", part) }
+        !(part in least) || $2 < least[part] { least[part] = $2 }
+        END {
+            if (differ) { print "the checksums of " name " differ" > "/dev/stderr"; exit 1 }
+            alone = least["place"]
+            printf "| %s | %.1f ms | %.1f ms, %.2f | %.1f ms, %.2f | %.1f ms, %.2f |\n", name, alone / 1000000,
+                least["turns1"] / 1000000, least["turns1"] / alone, least["turns2"] / 1000000, least["turns2"] / alone,
+                least["turns4"] / 1000000, least["turns4"] / alone
+        }'
+}
+
 head_of_table "search"
 row "100,000 records" place 100000 ms 1000000
 row "1,000,000 records" place 1000000 ms 1000000
@@ -70,3 +86,10 @@ rounds "100,000 records, c=200 alpha=99" _tight 100000
 if [ "${2:-}" = tight ]; then
     rounds "1,000,000 records, c=200 alpha=99" _tight 1000000
 fi
+
+echo
+echo "| search by turns on $(nproc) processors | alone | 1 worker, to alone | 2 | 4 |"
+echo "|---|---|---|---|---|"
+turns "1,000,000 records" "" 1000000
+turns "1,000,000 records, c=300 alpha=99" _lean 1000000
+turns "100,000 records, c=200 alpha=99" _tight 100000

@@ -9,6 +9,7 @@ use crate::parts::{Timed, time_buckets, time_murmur64, time_pairs};
 use crate::searches::time_search;
 use std::alloc::Global;
 use std::rt::Clock;
+use std::sync::Wait;
 use std::thread::Threads;
 use std::{env, io};
 
@@ -24,12 +25,12 @@ fn main(rt: HostRuntime) -> io::Result<()> {
             println!(rt; "{nanos} {checksum}")
         }
         _ => println!(rt;
-            "parts: murmur64, hash_pair, ordered_buckets, place, two, four, each also as place_lean and place_tight, partitions, repeat, lists, large, among; then how many bytes, keys, records or members"
+            "parts: murmur64, hash_pair, ordered_buckets, place, two, four, turns1, turns2, turns4, these six also as place_lean and place_tight, partitions, repeat, lists, large, among; then how many bytes, keys, records or members"
         ),
     }
 }
 
-fn time<R: Clock + Threads + Sync>(
+fn time<R: Clock + Threads + Wait + Sync>(
     rt: &R,
     alloc: Global,
     part: &str,

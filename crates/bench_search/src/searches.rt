@@ -13,8 +13,10 @@ use pilot_search::{Occupancy, Placed, Plan, Scratch, Stuck, place, place_one, pl
 use std::alloc::Global;
 use std::io;
 use std::rt::Clock;
+use std::sync::Wait;
 use std::thread::Threads;
 use std::time::Instant;
+use turn_search::{FreeGate, search_turns};
 
 const SEED: u64 = 1;
 
@@ -35,7 +37,7 @@ const AMONG: u32 = 1_000_000;
 
 const AMONG_PILOTS: u64 = 10_000;
 
-pub fn time_search<R: Clock + Threads + Sync>(
+pub fn time_search<R: Clock + Threads + Wait + Sync>(
     rt: &R,
     alloc: Global,
     part: &str,
@@ -57,24 +59,34 @@ pub fn time_search<R: Clock + Threads + Sync>(
     }
 }
 
-// The whole search of one plan, alone or in rounds.
-fn time_whole<R: Clock + Threads + Sync>(
+// The whole search of one plan: alone, in rounds or by turns.
+fn time_whole<R: Clock + Threads + Wait + Sync>(
     rt: &R,
     alloc: Global,
     part: &str,
     records: &[Record],
 ) -> io::Result<Timed> {
-    match part {
-        "place" => time_place(rt, alloc, records, usual(), PILOTS),
-        "place_lean" => time_place(rt, alloc, records, lean(), PILOTS),
-        "place_tight" => time_place(rt, alloc, records, tight(), PILOTS),
-        "two" => time_rounds(rt, alloc, records, usual(), 2),
-        "two_lean" => time_rounds(rt, alloc, records, lean(), 2),
-        "two_tight" => time_rounds(rt, alloc, records, tight(), 2),
-        "four" => time_rounds(rt, alloc, records, usual(), 4),
-        "four_lean" => time_rounds(rt, alloc, records, lean(), 4),
-        "four_tight" => time_rounds(rt, alloc, records, tight(), 4),
+    let (search, shape) = match part.split_once('_') {
+        Some((search, shape)) => (search, shape_of(shape)),
+        None => (part, usual()),
+    };
+    match search {
+        "place" => time_place(rt, alloc, records, shape, PILOTS),
+        "two" => time_rounds(rt, alloc, records, shape, 2),
+        "four" => time_rounds(rt, alloc, records, shape, 4),
+        "turns1" => time_turns(rt, alloc, records, shape, 1),
+        "turns2" => time_turns(rt, alloc, records, shape, 2),
+        "turns4" => time_turns(rt, alloc, records, shape, 4),
         _ => Err(invalid_input()),
+    }
+}
+
+// Another name is that of the usual shape.
+fn shape_of(name: &str) -> Shape {
+    match name {
+        "lean" => lean(),
+        "tight" => tight(),
+        _ => usual(),
     }
 }
 
@@ -171,6 +183,30 @@ fn time_rounds<R: Clock + Threads + Sync>(
     let plan = plan_of(alloc, records, shape, PILOTS)?;
     let start = Instant::now(rt)?;
     let answer = place_rounds(rt, alloc, &plan, workers);
+    let nanos = start.elapsed(rt)?.as_nanos();
+    match answer {
+        Ok(answer) => Ok(Timed {
+            nanos,
+            checksum: sum_of(&answer),
+        }),
+        Err(_) => Err(out_of_memory()),
+    }
+}
+
+// By turns of so many workers, one too, who goes through the table.
+fn time_turns<R: Clock + Threads + Wait + Sync>(
+    rt: &R,
+    alloc: Global,
+    records: &[Record],
+    shape: Shape,
+    workers: u32,
+) -> io::Result<Timed>
+    requires some { 1 ≤ workers }
+    requires bound { workers ≤ 64 }
+{
+    let plan = plan_of(alloc, records, shape, PILOTS)?;
+    let start = Instant::now(rt)?;
+    let answer = search_turns(rt, alloc, &plan, workers, &FreeGate);
     let nanos = start.elapsed(rt)?.as_nanos();
     match answer {
         Ok(answer) => Ok(Timed {

@@ -165,6 +165,7 @@ impl Index {
         ensures parts { result.parts ≡ length self.now.index.parts }
         ensures enc { result.enc ≡ self.now.enc }
         ensures mark { result.mark ≡ self.now.index.mark }
+        ensures valid { IsValidIndex self.now.index }
 
         // Sums over the partitions, and the length of the file.
         ensures size { result.size ≡ sum_by part_size self.now.index.parts }

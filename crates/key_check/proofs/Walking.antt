@@ -1,6 +1,6 @@
 -- The lines of a list walked one by one.
 use Rattle.std.specs.Prelude.{◌≡◌, ℕ, zero, suc, ◌+◌, ◌<◌, ◌≤◌, ◌==◌, ◌||◌, ◌%◌}
-use Rattle.std.specs.Prelude.{◌^◌, nat_lt, Bool, true, false, cond}
+use Rattle.std.specs.Prelude.{◌^◌, nat_lt, Bool, true, false, not, cond}
 use Rattle.std.specs.Prelude.{List, [], ◌∷◌, ◌++◌, length, map, slice_set, sum_by, bit_xor, Option, Some}
 use Rattle.std.specs.Prelude.{None, IfSome, IsSomeAnd, All, option_map, replicate}
 use Rattle.std.specs.List.{position_from}
@@ -8,7 +8,7 @@ use Rattle.std.specs.Option.{option_or, unwrap_or}
 use Rattle.std.specs.Int.Bits.{xor_assoc, xor_zero_l, xor_zero_r}
 use Rattle.std.proofs.Common.{get_or, refl, sym, ap, subst, ◌∙◌, arith, append_assoc, length-append, ⊎_elim}
 use Rattle.std.proofs.lemmas.Bool.{cases_eq, cases_lt, lt-ltb, le-ltb, eq-eqb, ne_eqb, eqb-true, and_parts}
-use Rattle.std.proofs.lemmas.List.{get_or-set_same, get_or-set_other, length-set, map-append, length-replicate, get_or-replicate}
+use Rattle.std.proofs.lemmas.List.{get_or-map, get_or-set_same, get_or-set_other, length-set, map-append, map-set, length-replicate, get_or-replicate}
 use Rattle.std.proofs.lemmas.List.Elements.{All-append, All-head, All-tail, All-nil, All-from_get_or}
 use Rattle.std.proofs.lemmas.List.Sums.{sum_by-append, sum_by-cons, sum_by-set}
 use Rattle.pth_outside.specs.declared.TheConstants.{LONGEST_KEY}
@@ -24,7 +24,7 @@ use Rattle.key_check.specs.declared.checked.Checked.{Checked}
 use Rattle.key_check.specs.declared.checked.Checked.TheVariants.{Good, TooLong, NoValue, Repeats, Counts, Differs}
 use Rattle.key_check.specs.declared.walk.Walk.{Walk}
 use Rattle.key_check.specs.Checked.{is_number, first_with, fault_of_value, fault_of_line, is_same_mark, compared, after_all, checked_from, checked}
-use Rattle.key_check.specs.Walks.{one_if_some, marked_by, IsFor, HasWalked}
+use Rattle.key_check.specs.Walks.{one_if_some, is_line, marked_by, IsFor, HasWalked}
 use Rattle.key_check.specs.Meaning.{IsGood}
 
 -- the value of a line from its hashes
@@ -173,11 +173,18 @@ filled-zeros : (n : ℕ) → sum_by one_if_some (replicate n 0) ≡ 0
 filled-zeros zero = refl
 filled-zeros (suc n) = omega (arith, sum_by-cons one_if_some 0 (replicate n 0), filled-zeros n)
 
+-- zeros are numbers of no line
+unseen : (n : ℕ) → replicate n false ≡ map is_line (replicate n 0)
+unseen zero = refl
+unseen (suc n) = ap (λ bits. false ∷ bits) (unseen n)
+
 -- a walk with zeros and no line is for the index
-pub for_none : (x : IndexData) (walk : Walk) → walk.seed ≡ x.seed → walk.numbers.items ≡ replicate x.n 0 → walk.lines ≡ 0 → IsFor x walk
-for_none x walk seed zeros none = record {
+pub for_none : (x : IndexData) (walk : Walk) → walk.seed ≡ x.seed → walk.numbers.items ≡ replicate x.n 0 → walk.seen ≡ replicate x.n false →
+    walk.lines ≡ 0 → IsFor x walk
+for_none x walk seed zeros clear none = record {
   seed = seed;
   size = ap length zeros ∙ length-replicate x.n 0;
+  seen = clear ∙ unseen x.n ∙ ap (map is_line) (sym zeros);
   filled = ap (sum_by one_if_some) zeros ∙ filled-zeros x.n ∙ sym none;
   few = omega arith;
 }
@@ -196,16 +203,21 @@ walked_none x walk zeros none mark = record {
 -- the walk is for the index after one line more, too
 pub for_more : (x : IndexData) (old new : Walk) (v number : ℕ) → IsFor x old → x.n ≤ 67108864 → v < length old.numbers.items →
     get_or old.numbers.items v 0 ≡ 0 → number ≡ old.lines + 1 → new.numbers.items ≡ slice_set old.numbers.items v number →
-    new.lines ≡ number → new.seed ≡ old.seed → IsFor x new
-for_more x old new v number for few within free is numbers lines seed =
+    new.seen ≡ slice_set old.seen v true → new.lines ≡ number → new.seed ≡ old.seed → IsFor x new
+for_more x old new v number for few within free is numbers seen lines seed =
     let sums = sum_by-set one_if_some old.numbers.items v number 0 within in
     let none : one_if_some (get_or old.numbers.items v 0) ≡ 0 = ap one_if_some free in
-    let one : one_if_some number ≡ 1 = ap (λ b. cond b 0 1) (ne_eqb number 0 (λ e. omega arith)) in
+    let some : (number == 0) ≡ false = ne_eqb number 0 (λ e. omega arith) in
+    let one : one_if_some number ≡ 1 = ap (λ b. cond b 0 1) some in
+    let bits : slice_set old.seen v true ≡ map is_line (slice_set old.numbers.items v number) =
+    ap (λ (bs : List Bool). slice_set bs v true) for.seen ∙ ap (slice_set (map is_line old.numbers.items) v) (sym (ap not some))
+    ∙ sym (map-set is_line old.numbers.items v number) in
     let filled : sum_by one_if_some new.numbers.items ≡ number = omega (arith, ap (sum_by one_if_some) numbers, for.filled) in
     let size : length new.numbers.items ≡ x.n = ap length numbers ∙ length-set old.numbers.items v number ∙ for.size in
     record {
       seed = seed ∙ for.seed;
       size = size;
+      seen = seen ∙ bits ∙ ap (map is_line) (sym numbers);
       filled = filled ∙ sym lines;
       few = omega (arith, filled-le new.numbers.items);
     }
@@ -391,3 +403,17 @@ end_is x before walk kept walked same enough =
     let test : nat_lt (length before) x.n ≡ false = le-ltb (length before) x.n (omega (arith, walked.count)) in
     (λ i. compared (same i) (walked.mark i))
     ∙ sym (ap (λ b. cond b (Counts x.n (length before)) (compared x.mark (mark_of before x.seed))) test)
+
+-- the bit of a value tells whether a line has it
+pub bit_is : (x : IndexData) (walk : Walk) (v : ℕ) → IsFor x walk → v < length walk.numbers.items →
+    get_or walk.seen v false ≡ is_line (get_or walk.numbers.items v 0)
+bit_is x walk v for within = ap (λ (bits : List Bool). get_or bits v false) for.seen ∙ get_or-map is_line walk.numbers.items v 0 false within
+
+-- a set bit is that of a number that isn't 0
+pub set_bit : (n : ℕ) → true ≡ is_line n → n ≡ 0 → ⊥
+set_bit n set none = absurd cc
+
+-- a clear bit is that of 0
+pub clear_bit : (n : ℕ) → false ≡ is_line n → n ≡ 0
+clear_bit zero clear = refl
+clear_bit (suc n) clear = absurd cc

@@ -1,5 +1,5 @@
 -- What is kept of the lines that a check has walked.
-use Rattle.std.specs.Prelude.{◌≡◌, ℕ, ◌+◌, ◌≤◌, ◌<◌, ◌==◌, ◌%◌, ◌^◌, List}
+use Rattle.std.specs.Prelude.{◌≡◌, ℕ, ◌+◌, ◌≤◌, ◌<◌, ◌==◌, ◌%◌, ◌^◌, Bool, not, List, map}
 use Rattle.std.specs.Prelude.{length, slice_index_or, sum_by, bit_xor, if◌then◌else◌}
 use Rattle.std.specs.Option.{unwrap_or}
 use Rattle.pthash.specs.declared.TheConstants.{MAX_KEYS}
@@ -12,14 +12,19 @@ use Rattle.key_check.specs.Checked.{first_with}
 abbrev pub one_if_some : ℕ → ℕ
 one_if_some number = if number == 0 then 0 else 1
 
+-- whether a number is that of a line
+abbrev pub is_line : ℕ → Bool
+is_line number = not (number == 0)
+
 -- a mark with one line more, by its hashes
 abbrev pub marked_by : KeyMarkData → ℕ → ℕ → KeyMarkData
 marked_by mark a b = record { sum = (mark.sum + a) % 2 ^ 64; xor = bit_xor mark.xor b }
 
--- a walk has the seed of an index and a number for each value, of which as many are of lines as there are lines
+-- a walk has the seed of an index and a number for each value, of which as many are of lines as there are lines, and the bits tell which
 pub record IsFor (x : IndexData) (walk : Walk) : Type 0 where
   pub seed : walk.seed ≡ x.seed
   pub size : length walk.numbers.items ≡ x.n
+  pub seen : walk.seen ≡ map is_line walk.numbers.items
   pub filled : sum_by one_if_some walk.numbers.items ≡ walk.lines
   pub few : walk.lines ≤ MAX_KEYS
 

@@ -1,20 +1,24 @@
 // The lines of a list walked one by one.
-ghost use Rattle.std.specs.Prelude.{◌≡◌, ◌<◌, ◌++◌, ◌∷◌, [], List, ℕ, None, replicate, IfOk, IfSome};
+ghost use Rattle.std.specs.Prelude.{◌≡◌, ◌<◌, ◌≤◌, ◌++◌, ◌∷◌, [], List, ℕ, None, false, replicate, IfOk, IfSome};
+ghost use Rattle.pthash.specs.declared.TheConstants.{MAX_KEYS};
 ghost use Rattle.build_outcome.specs.Values.{value_of};
 ghost use Rattle.key_check.specs.Checked.{fault_of_value, after_all, is_same_mark, compared};
 ghost use Rattle.key_check.specs.Walks.{IsFor, HasWalked, marked_by};
 
 use crate::checked::Checked;
+use bit_vector::{BitVec, NoMemory};
 use build_outcome::KeyMark;
 use index_file::Index;
 use murmur64::hash_pair;
 use std::alloc::{AllocError, Global};
 
 // What is kept of the lines that were walked: by value the number of the line that has it, 0 for none,
-// how many lines, and their mark at a seed.
+// how many lines, and their mark at a seed. Which values are had is kept in bits besides: these stay in the
+// caches, and a number is only written, so that nothing waits for it.
 #[derive(Drop)]
 pub(crate) struct Walk {
     pub(crate) numbers: Vec<u32>,
+    pub(crate) seen: BitVec,
     pub(crate) lines: u64,
     pub(crate) seed: u64,
     pub(crate) mark: KeyMark,
@@ -25,6 +29,17 @@ fn blank(alloc: Global, n: usize) -> Result<Vec<u32>, AllocError>
     ensures { IfOk result (λ v. v.items ≡ replicate n 0) }
 {
     vec![in alloc; 0; n]
+}
+
+// As many clear bits.
+fn no_bits(alloc: Global, n: u64) -> Result<BitVec, AllocError>
+    requires { n ≤ MAX_KEYS }
+    ensures { IfOk result (λ bits. bits ≡ replicate n false) }
+{
+    match BitVec::zeros(alloc, n) {
+        Ok(bits) => Ok(bits),
+        Err(NoMemory) => Err(AllocError),
+    }
 }
 
 // Whether both marks are the same.
@@ -68,6 +83,7 @@ impl Walk {
         let head = index.head();
         Ok(Self {
             numbers: blank(alloc, head.n as usize)?,
+            seen: no_bits(alloc, head.n)?,
             lines: 0,
             seed: head.seed,
             mark: KeyMark { sum: 0, xor: 0 },
@@ -89,16 +105,17 @@ impl Walk {
         let pair = hash_pair(line, self.seed);
         let value = match index.lookup_pair(pair) {
             None => return Some(Checked::NoValue { line: number }),
-            Some(value) => value as usize,
+            Some(value) => value,
         };
-        let earlier = self.numbers[value];
-        if earlier != 0 {
+        if self.seen.get(value) {
+            let earlier = u64::from(self.numbers[value as usize]);
             return Some(Checked::Repeats {
                 line: number,
-                earlier: u64::from(earlier),
+                earlier,
             });
         }
-        self.numbers[value] = number as u32;
+        self.seen.set(value);
+        self.numbers[value as usize] = number as u32;
         self.lines = number;
         self.mark = more_marked(self.mark, pair.a, pair.b);
         None

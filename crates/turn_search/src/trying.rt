@@ -17,7 +17,6 @@ use crate::layout::bits_from;
 use crate::plays::LookStep;
 use crate::table::{Pass, TurnTable};
 use divisor::Divisor;
-use murmur64::pilot_hash;
 use pilot_search::{Scratch, spread};
 use std::marker::Model;
 
@@ -166,9 +165,10 @@ impl<'a> TurnTable<'a> {
         ensures all_rejected { IfNone result
             (RejectsBelow pass.new.view rank self.now.plan.limit) }
     {
+        let members = self.plan.members(rank);
         let size = Divisor::new(self.plan.size());
         for pilot in first..self.plan.limit() {
-            if self.try_pilot(pass, rank, pilot, &size, scratch) {
+            if self.try_pilot(pass, rank, members, pilot, &size, scratch) {
                 return Some(pilot);
             }
         }
@@ -180,6 +180,7 @@ impl<'a> TurnTable<'a> {
         &self,
         pass: &mut Pass,
         rank: u64,
+        members: &[u64],
         pilot: u64,
         size: &Divisor,
         scratch: &mut Scratch,
@@ -187,6 +188,7 @@ impl<'a> TurnTable<'a> {
         requires pass { IsPassOf self.now pass.old }
         requires claim { pass.old.view.claim ≡ Some rank }
         requires rank { rank < ranks_of self.now.plan }
+        requires members { members.now ≡ (bucket_at self.now.plan.buckets rank).members }
         requires pilot { pilot < self.now.plan.limit }
         requires size { size.now ≡ self.now.plan.size }
         requires room { most_members self.now.plan.buckets ≤ scratch.old.members }
@@ -198,8 +200,8 @@ impl<'a> TurnTable<'a> {
         ensures rejected { let taken = found_taken pass.new.view.looks in
             result ≡ false → fits_at pass.new.view.plan taken rank pilot ≡ false }
     {
-        let members = self.plan.members(rank);
-        if !self.are_free(pass, members, pilot_hash(pilot, self.plan.seed()), size) {
+        let hash = scratch.pilot_hash(pilot, self.plan.seed());
+        if !self.are_free(pass, members, hash, size) {
             return false;
         }
         spread(self.plan, rank, pilot, scratch)
