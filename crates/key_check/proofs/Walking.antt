@@ -411,9 +411,10 @@ bit_is x walk v for within = ap (λ (bits : List Bool). get_or bits v false) for
 
 -- a set bit is that of a number that isn't 0
 pub set_bit : (n : ℕ) → true ≡ is_line n → n ≡ 0 → ⊥
-set_bit n set none = absurd cc
+set_bit zero set none = absurd cc
+set_bit (suc n) set none = omega arith
 
 -- a clear bit is that of 0
 pub clear_bit : (n : ℕ) → false ≡ is_line n → n ≡ 0
 clear_bit zero clear = refl
-clear_bit (suc n) clear = absurd cc
+clear_bit (suc n) clear = let both : false ≡ true = clear ∙ ap not (ne_eqb (suc n) 0 (λ e. omega arith)) in absurd cc

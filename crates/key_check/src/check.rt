@@ -38,7 +38,7 @@ impl From<AllocError> for CheckErr {
 }
 
 /// Checks whether the lines of a file map one to one onto the numbers below n. It keeps no line but
-/// the one that it is at, and 4 bytes for each value; it reads at most n + 1 lines.
+/// the one that it is at, and 4 bytes and a bit for each value; it reads at most n + 1 lines.
 pub fn check_keys<F: Files>(
     alloc: Global,
     index: &Index,
