@@ -1,5 +1,5 @@
 -- What has a spelling, how long it is, and where it stands.
-use Rattle.std.proofs.Common.{◌≡◌, ℕ, zero, suc, ◌+◌, ◌-◌, ◌*◌, ◌/◌, ◌^◌, ◌<◌, ◌≤◌, List, [], ◌∷◌, ◌++◌}
+use Rattle.std.proofs.Common.{◌≡◌, ℕ, zero, suc, ◌+◌, ◌-◌, ◌*◌, ◌^◌, ◌<◌, ◌≤◌, List, ◌++◌}
 use Rattle.std.proofs.Common.{length, get_or, map, take, drop, Option, Some, None}
 use Rattle.std.proofs.Common.{refl, sym, ap, ◌∙◌, subst, append_assoc, arith}
 use Rattle.std.specs.List.{flat_map}
@@ -8,7 +8,7 @@ use Rattle.std.proofs.lemmas.List.{drop_at, take_at, length-append, length-take,
 use Rattle.pthash.specs.Sizes.{front_count_of}
 use Rattle.bit_vector.specs.Bits.{bits_of_each}
 use Rattle.bit_vector.proofs.CallerLemmas.{length-bits_of_each}
-use Rattle.elias_fano.specs.Spelling.{number, run, ef_text, IsRising}
+use Rattle.elias_fano.specs.Spelling.{number, run, IsRising}
 use Rattle.elias_fano.proofs.CallerLemmas.{length-numbers, length-run, length-ef_text}
 use Rattle.pilot_codecs.specs.declared.code.Code.{Code}
 use Rattle.pilot_codecs.specs.declared.code.Code.TheVariants as codes

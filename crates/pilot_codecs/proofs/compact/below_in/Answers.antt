@@ -1,4 +1,4 @@
-use Rattle.std.proofs.Common.{◌≡◌, ℕ, ◌*◌, ◌/◌, ◌%◌, ◌^◌, ◌<◌, ◌≤◌, List, length, get_or, sym, ap, ◌∙◌, arith}
+use Rattle.std.proofs.Common.{◌≡◌, ℕ, ◌*◌, get_or, sym, ap, ◌∙◌, arith}
 use Rattle.bit_vector.specs.Bits.{bits_of, words_number}
 use Rattle.elias_fano.proofs.CallerLemmas.{below_len-le, below_len-most}
 use Rattle.pilot_codecs.specs.Spelling.{greatest}

@@ -1,4 +1,4 @@
-use Rattle.std.proofs.Common.{◌≡◌, ℕ, ◌+◌, ◌*◌, true, length, Err, sym, ap, ◌∙◌, arith}
+use Rattle.std.proofs.Common.{◌≡◌, ℕ, ◌+◌, ◌*◌, length, Err, sym, ap, ◌∙◌, arith}
 use Rattle.elias_fano.specs.Reading.{fault}
 use Rattle.pilot_codecs.specs.Reading.{are_below, are_used}
 use Rattle.pilot_codecs.proofs.DictForms.{used_at-below, used_at-used, used_at-ok}

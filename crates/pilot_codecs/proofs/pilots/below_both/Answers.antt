@@ -1,6 +1,5 @@
-use Rattle.std.proofs.Common.{◌+◌, ◌<◌, ◌≤◌, ◌++◌, length, sym, ◌∙◌, ap, ℕ, arith}
+use Rattle.std.proofs.Common.{sym, ◌∙◌, arith}
 use Rattle.std.proofs.lemmas.List.{length-append}
-use Rattle.elias_fano.specs.Values.{below_len}
 use Rattle.elias_fano.proofs.CallerLemmas.{below_len-most}
 use Rattle.pilot_codecs.specs.Values.{values_of}
 use Rattle.pilot_codecs.proofs.BelowLemmas.{below-front, below-back}

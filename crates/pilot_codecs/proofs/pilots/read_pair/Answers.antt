@@ -1,4 +1,4 @@
-use Rattle.std.proofs.Common.{◌≡◌, ℕ, ◌+◌, ◌-◌, ◌≤◌, ◌++◌, List, length, sym, ap, subst, ◌∙◌, arith}
+use Rattle.std.proofs.Common.{◌≡◌, ℕ, ◌+◌, ◌-◌, ◌≤◌, ◌++◌, length, sym, ap, subst, ◌∙◌, arith}
 use Rattle.pthash.specs.Sizes.{front_count_of}
 use Rattle.pilot_codecs.specs.declared.code.Code.{Code}
 use Rattle.pilot_codecs.specs.Values.{values_of, code_of}
