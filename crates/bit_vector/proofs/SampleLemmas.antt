@@ -256,11 +256,11 @@ ones_all ws at h le past =
 pub none_passed : (rest left size : ℕ) → left < count_ones (rest % 2 ^ size) → IsPassed rest left size 0 0
 none_passed rest left size here =
     let same : size + 0 ≡ size = omega arith in record {
-  ones_are = sym (ap count_ones (mod-one rest) ∙ no_ones);
-  within = omega arith;
-  enough = omega arith;
-  here = omega (arith, here, ap (λ (j : ℕ). count_ones (rest % 2 ^ j)) same);
-}
+      ones_are = sym (ap count_ones (mod-one rest) ∙ no_ones);
+      within = omega arith;
+      enough = omega arith;
+      here = omega (arith, here, ap (λ (j : ℕ). count_ones (rest % 2 ^ j)) same);
+    }
 
 -- some quarters are passed, up to a place
 pub some_passed : (rest left size skip next : ℕ) → skip ≤ 3 * size → next ≡ size + skip →

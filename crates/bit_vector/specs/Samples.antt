@@ -19,7 +19,7 @@ pub record IsSampled (words samples : List ℕ) : Type 0 where
   pub enough : all_ones words ≤ STEP * length samples
   pub within : (j : ℕ) → j < length samples → slice_index samples j / 64 < length words
   pub number : (j : ℕ) → j < length samples
-    → all_ones (take (slice_index samples j / 64) words) + slice_index samples j % 64 ≡ STEP * j
+      → all_ones (take (slice_index samples j / 64) words) + slice_index samples j % 64 ≡ STEP * j
 
 -- the place of the one with that number, from 0
 pub record IsOneAt (n i p : ℕ) : Type 0 where

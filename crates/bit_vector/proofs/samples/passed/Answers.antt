@@ -20,7 +20,7 @@ returns-then-left-next c =
       | else-left-half w ↦
           let next_is = ap (λ (p : ℕ × ℕ × ℕ). p.2) w.skip-is in
           rw (w.skip-is, c.low_bits-half.ensures) (some_passed rest left size (2 * size) (3 * size) (omega arith) (omega arith)
-              (omega (arith, w.if-left-half.false, half)) (omega (arith, next, next_is, third)))
+          (omega (arith, w.if-left-half.false, half)) (omega (arith, next, next_is, third)))
     ]
 
 pub returns-else-left-next : goal.returns-else-left-next
@@ -37,10 +37,10 @@ returns-else-left-next c =
           let next_is = ap (λ (p : ℕ × ℕ × ℕ). p.2) w.skip-is in
           let skip : 0 + size ≡ size = omega arith in
           rw (w.skip-is, c.low_bits-first.ensures, skip) (some_passed rest left size size (2 * size) (omega arith) (omega arith)
-              (omega (arith, next, next_is, first)) (omega (arith, w.if-left-half.true, half)))
+          (omega (arith, next, next_is, first)) (omega (arith, w.if-left-half.true, half)))
       | else-left-half w ↦
           let next_is = ap (λ (p : ℕ × ℕ × ℕ). p.2) w.skip-is in
           let skip : 2 * size + size ≡ 3 * size = omega arith in
           rw (w.skip-is, c.low_bits-third.ensures, skip) (some_passed rest left size (3 * size) (4 * size) (omega arith) (omega arith)
-              (omega (arith, next, next_is, third)) c.requires.here)
+          (omega (arith, next, next_is, third)) c.requires.here)
     ]

@@ -19,7 +19,7 @@ loop-at-preserved c =
       | then-next-total+in_ok-push w ↦
           let items = w.in_ok-push.ensures.items in
           let all = one_noted words old w.push.new.self.items at c.loop-at.total c.loop-at.next _ noted inv.total_is inv.next_is inv.due
-              (omega (arith, w.if-next-total.true, here, few)) refl items in
+          (omega (arith, w.if-next-total.true, here, few)) refl items in
           let longer = ap length items ∙ length_push old _ in
           rw (w.samples-is, w.next-is) (record {
             total_is = omega (arith, more, here, inv.total_is);

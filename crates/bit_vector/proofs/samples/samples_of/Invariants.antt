@@ -11,5 +11,5 @@ invariant-loop-at l = record {
   soon : l.next ≤ l.total + 128;
   within : (j : ℕ) → j < length l.samples.items → slice_index l.samples.items j / 64 < l.at;
   number : (j : ℕ) → j < length l.samples.items
-    → all_ones (take (slice_index l.samples.items j / 64) l.words) + slice_index l.samples.items j % 64 ≡ 128 * j;
+      → all_ones (take (slice_index l.samples.items j / 64) l.words) + slice_index l.samples.items j % 64 ≡ 128 * j;
 }
