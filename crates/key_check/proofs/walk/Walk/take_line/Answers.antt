@@ -1,4 +1,4 @@
-use Rattle.std.specs.Prelude.{◌≡◌, ◌+◌, ◌<◌, length, Some, IfSome}
+use Rattle.std.specs.Prelude.{◌≡◌, ◌+◌, ◌<◌, true, length, Some, IfSome}
 use Rattle.std.proofs.Common.{get_or, refl, sym, ap, subst, ◌∙◌, arith}
 use Rattle.pthash.specs.Hash.{first_hash, second_hash}
 use Rattle.build_outcome.specs.Values.{value_of}
@@ -46,8 +46,9 @@ returns-then-get-clause-fault c before walked =
     let within : v < length numbers = omega (arith, c.requires.size) in
     let read : e ≡ get_or numbers v 0 = c.index.ensures ∙ same_inside numbers v e 0 within in
     let same : c.from-earlier.result ≡ e = c.from-earlier.ensures in
+    let had : true ≡ is_line e = c.if-get.ensures ∙ bit_is x c.args.self.now v c.requires within ∙ ap is_line (sym read) in
     ap (λ n. Some (Repeats (c.args.self.now.lines + 1) n)) same
-    ∙ repeat_here x before c.args.line.now c.args.self.now v e walked (sym value ∙ c.in-Some.is) within read (set_bit e (c.if-get.ensures ∙ bit_is x c.args.self.now v c.requires within ∙ ap is_line (sym read)))
+    ∙ repeat_here x before c.args.line.now c.args.self.now v e walked (sym value ∙ c.in-Some.is) within read (set_bit e had)
 
 pub returns-clause-below : goal.returns-clause-below
 returns-clause-below c =
