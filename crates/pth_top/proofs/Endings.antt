@@ -309,6 +309,16 @@ ends_command command (Err stop) status f g h s s' answers finishes undone no_cal
     subst (λ (k : FilesState). Ends command status f k s s') (sym (no_call refl))
     (ends_stopped command status f g s s' (ReadsFiles-if f g (λ (is : stop ≡ Fault). ap Err is) (λ why. why) answers.reads) undone)
 
+-- a command whose answer has another status than that of a repeated key doesn't end with it
+pub not_repeated : (answer : Result Answer Stop) (status : ℕ) (f f' : FilesState) (s s' : SinkState) →
+    IfOk answer (λ a. Finishes (done_of a) status f f' s s') → IfErr answer (λ stop. GivesUp (stop ≡ Fault) status s s') →
+    IfOk answer (λ a. a.status ≢ REPEATED_KEY) → status ≢ REPEATED_KEY
+not_repeated (Ok a) status f f' s s' finishes undone other four =
+    let ends : EndsAs (done_of a) status s s' f.told f'.told = finishes.ends (own_status status (inr four)) in
+    other (sym ends.status_is ∙ four)
+not_repeated (Err stop) status f f' s s' finishes undone other four =
+    gave_up_two status undone.statuses (λ is. omega arith) (λ is. omega arith)
+
 -- words that are refused give their refusal over whatever files
 pub refused_over : (fault : WordFault) (told : Option FileMap) → IfSome told (λ m. command_result (Err fault) m ≡ Some (refused fault))
 refused_over fault None = tt

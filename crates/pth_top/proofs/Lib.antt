@@ -1,4 +1,5 @@
 mod Commands
+mod Demos
 mod Endings
 mod Faults
 mod Lines

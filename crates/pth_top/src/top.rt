@@ -12,6 +12,7 @@ ghost use Rattle.pth_top.specs.Words.{refused, done, new_file, CommandBuilds, Co
 
 use crate::build::build_command;
 use crate::check::check_command;
+use crate::demo::demo_command;
 use crate::finish::{show, show_want};
 use crate::pilots::pilots_command;
 use crate::query::query_command;
@@ -116,6 +117,7 @@ fn run_words<R: Threads + Wait + Sync, F: Files, O: Sink, G: Gate>(
         Ok(Command::Check { index, keys }) => check_command(alloc, &index, &keys, files, out),
         Ok(Command::Upgrade { index, keys }) => upgrade_command(alloc, &index, &keys, files, out),
         Ok(Command::Stats { index }) => stats_command(alloc, &index, files, out),
+        Ok(Command::Demo(keys)) => demo_command(rt, alloc, keys, files, out, gate),
         Err(WordsErr::Bad(fault)) => refuse(alloc, fault, out),
         Err(WordsErr::NoMemory) => show_want(out),
     }
