@@ -1,5 +1,4 @@
 mod Commands
-mod Demos
 mod Endings
 mod Faults
 mod Lines
