@@ -1,27 +1,25 @@
 -- How commands end.
 use Rattle.std.proofs.Common.{◌≡◌, ◌≢◌, ◌≤◌, ℕ, List, Option, Some, None, Result}
-use Rattle.std.proofs.Common.{Ok, Err, IsSome, IsErr, IfSome, IfOk, IfErr, option_map, IsErrOf}
+use Rattle.std.proofs.Common.{Ok, Err, IsSome, IsErr, IfSome, IfOk, IfErr, option_map}
 use Rattle.std.proofs.Common.{inl, inr, ⊎_elim, refl, sym, ap, subst, ◌∙◌, arith}
 use Rattle.std.specs.Prelude.{◌⊎◌, IsSomeAnd, option_and_then}
-use Rattle.std.specs.FinMap as map
 use Rattle.command_words.specs.declared.faults.WordFault.{WordFault}
 use Rattle.command_words.specs.Names.{tmp_of}
 use Rattle.command_words.specs.Words.{CommandData}
 use Rattle.pth_outside.specs.Files.{FileMap, FilesState, LeavesFiles, ReadsFiles, contents}
 use Rattle.pth_outside.specs.FilesLaws.{ReadsFiles-leaves, ReadsFiles-none, ReadsFiles-if, LeavesFiles-ok, LeavesFiles-if, LeavesFiles-then}
 use Rattle.pth_outside.specs.Sink.{SinkState, LeavesSink, written, Prints, WritesFront}
-use Rattle.pth_outside.specs.SinkLaws.{LeavesSink-if}
 use Rattle.pth_top.specs.declared.TheConstants.{FILE_FAULT, FAILED_OUTPUT, CHECK_FAILED, NO_MEMORY, REPEATED_KEY, WORDS_REFUSED}
 use Rattle.pth_top.specs.declared.answer.Answer.{Answer}
 use Rattle.pth_top.specs.declared.answer.NewFile.{NewFile}
 use Rattle.pth_top.specs.declared.answer.Stop.{Stop}
-use Rattle.pth_top.specs.declared.answer.Stop.TheVariants.{Fault, NoMemory}
+use Rattle.pth_top.specs.declared.answer.Stop.TheVariants.{Fault}
 use Rattle.pth_top.specs.Done.{Done, NewFileData, done_of, new_file_data, with_file, with_new}
-use Rattle.pth_top.specs.Ending.{EndsAs, IsCutOff, IsDone, ChangesOnly, LeavesNames, LeavesFor, Answers, Finishes, GivesUp, Ends}
+use Rattle.pth_top.specs.Ending.{EndsAs, IsCutOff, IsDone, LeavesFor, Answers, Finishes, GivesUp, Ends}
 use Rattle.pth_top.specs.Finishing.{KeepsBut}
 use Rattle.pth_top.specs.Statuses.{IsOfCommand, IsStatus}
 use Rattle.pth_top.specs.Texts.{file_fault, no_memory}
-use Rattle.pth_top.specs.Words.{refused, command_result, new_file, CommandRepeats, CommandBuilds}
+use Rattle.pth_top.specs.Words.{refused, command_result, new_file, CommandBuilds}
 use Rattle.pth_top.proofs.Replacing.{name_is_not_tmp, with_new-name, with_new-other}
 use Rattle.pth_top.proofs.Repeats.{command_repeats}
 

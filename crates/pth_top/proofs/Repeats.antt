@@ -24,10 +24,10 @@ use Rattle.pth_outside.specs.Keys.{keys_of, first_too_long}
 use Rattle.pth_top.specs.declared.TheConstants.{REPEATED_KEY}
 use Rattle.pth_top.specs.Done.{Done}
 use Rattle.pth_top.specs.Lists.{HasRepeat, and_then, gives, list_in, unless_too_long, too_many_result, index_by, index_for, index_in}
-use Rattle.pth_top.specs.Build.{build_result, index_file_of}
+use Rattle.pth_top.specs.Build.{index_file_of}
 use Rattle.pth_top.specs.Check.{check_result, good_result, mark_found}
 use Rattle.pth_top.specs.Demo.{default_settings, demo_of_index, demo_of_keys, demo_result}
-use Rattle.pth_top.specs.Pilots.{pilots_result, pilots_of_index}
+use Rattle.pth_top.specs.Pilots.{pilots_of_index}
 use Rattle.pth_top.specs.Query.{faulty_result, index_read, unless_faulty, query_result, values_of}
 use Rattle.pth_top.specs.Upgrade.{upgraded_from, upgrade_result}
 use Rattle.pth_top.specs.Stats.{stats_of_index, stats_result}
