@@ -1,5 +1,5 @@
 -- How commands end.
-use Rattle.std.proofs.Common.{◌≡◌, ◌≢◌, ◌≤◌, ℕ, List, Option, Some, None, Result}
+use Rattle.std.proofs.Common.{◌≡◌, ◌≢◌, ◌≤◌, ℕ, false, List, Option, Some, None, Result}
 use Rattle.std.proofs.Common.{Ok, Err, IsSome, IsErr, IfSome, IfOk, IfErr, option_map}
 use Rattle.std.proofs.Common.{inl, inr, ⊎_elim, refl, sym, ap, subst, ◌∙◌, arith}
 use Rattle.std.specs.Prelude.{◌⊎◌, IsSomeAnd, option_and_then}
@@ -330,3 +330,16 @@ leaves_none f = ReadsFiles-leaves f f (ReadsFiles-none f (λ none. none))
 pub some_file : (file : Option NewFile) → IsSome (option_map new_file_data file) → IsSome file
 some_file None some = some
 some_file (Some file) some = refl
+
+-- files that tell nothing
+pub silent_files : FilesState
+silent_files = record { told = None; faults = 0; sure = false }
+
+-- a command on no file whose text was handed over
+pub finishes_text : (a : Answer) (result : ℕ) (text : List ℕ) (f : FilesState) (s s' : SinkState) →
+    text ≡ (done_of a).text → a.file ≡ None → IsShown a.status result text s s' → Finishes (done_of a) result f f s s'
+finishes_text a result text f s s' says none shown =
+    let d = done_of a in
+    let no_new : d.file ≡ None = ap (option_map new_file_data) none in
+    finishes_shown d result text f f s s' says a.own a.few (λ some. a.done (some_file a.file some))
+    (subst (λ (x : Option NewFileData). f.told ≡ option_map (with_file x) f.told) (sym no_new) (no_new_file f.told)) (leaves_none f) shown

@@ -1,42 +1,43 @@
 // The command `demo`.
-ghost use Rattle.std.specs.Prelude.{◌≡◌, ◌≢◌, ◌++◌, ◌≤◌, List, Ok, IfOk, OnOk, IsErrOf, length, string_bytes};
+ghost use Rattle.std.specs.Prelude.{◌≡◌, ◌≢◌, ◌++◌, ◌≤◌, Ok, IfOk, OnOk, IsErrOf, None, length, string_bytes};
 ghost use Rattle.pthash.specs.declared.TheConstants.{MAX_KEYS};
 ghost use Rattle.command_words.specs.Words.{DemoOf};
+ghost use Rattle.pth_outside.specs.Files.{FilesState};
 ghost use Rattle.pth_top.specs.declared.TheConstants.{REPEATED_KEY};
 ghost use Rattle.pth_top.specs.Demo.{demo_of_index, demo_of_keys, demo_result, keys_line, tried_line, tried_lines};
 ghost use Rattle.pth_top.specs.Done.{done_of};
 ghost use Rattle.pth_top.specs.Ending.{Ends};
 
 use crate::answer::{Answer, Stop};
-use crate::finish::finish;
+use crate::finish::finish_text;
 use crate::lists::build_all;
 use crate::text::{push_encoding, push_number};
 use command_words::{Demo, default_options};
 use demo_index::{Tried, demo_keys, try_encodings};
 use hem_build::Built;
-use pth_outside::{Files, KeyList, Sink};
+use pth_outside::{KeyList, Sink};
 use std::alloc::{AllocError, Global};
 use std::sync::Wait;
 use std::thread::Threads;
 use turn_search::Gate;
 
 /// Builds the index of generated keys with the settings by default, tries it under each encoding in memory, hands over the
-/// length and the sum of the values under each, or why there is no index, and answers the status. It makes no call on files.
-pub fn demo_command<R: Threads + Wait + Sync, F: Files, O: Sink, G: Gate>(
+/// length and the sum of the values under each, or why there is no index, and answers the status.
+pub fn demo_command<R: Threads + Wait + Sync, O: Sink, G: Gate>(
     rt: &R,
     alloc: Global,
     keys: Demo,
-    files: &mut F,
     out: &mut O,
     gate: &G,
 ) -> u8
-    ensures ends { Ends (Ok (DemoOf keys.count keys.seed)) result
-        (F.state files.old) (F.state files.new) (O.state out.old) (O.state out.new) }
+    // It needs no files: they stay, whatever they tell.
+    ensures ends { (files : FilesState) → Ends (Ok (DemoOf keys.count keys.seed)) result
+        files files (O.state out.old) (O.state out.new) }
     // No generated key comes twice.
     ensures distinct { result ≢ REPEATED_KEY }
 {
     let answer = demo(rt, alloc, keys, gate);
-    finish(alloc, answer, files, out)
+    finish_text(answer, out)
 }
 
 // What the index of generated keys comes to under each encoding, or why there is none.
@@ -49,6 +50,7 @@ fn demo<R: Threads + Wait + Sync, G: Gate>(
     ensures done { IfOk result (λ answer.
         demo_result wanted.count wanted.seed ≡ done_of answer) }
     ensures distinct { IfOk result (λ answer. answer.status ≢ REPEATED_KEY) }
+    ensures no_file { IfOk result (λ answer. answer.file ≡ None) }
     ensures memory { IsErrOf result Stop.Fault → ⊥ }
 {
     let Ok(keys) = demo_keys(alloc, wanted.count, wanted.seed) else {
@@ -66,6 +68,7 @@ fn demo_of_list<R: Threads + Wait + Sync, G: Gate>(
 ) -> Result<Answer, Stop>
     requires { length keys.now ≤ MAX_KEYS }
     ensures done { IfOk result (λ answer. demo_of_keys keys.now ≡ done_of answer) }
+    ensures no_file { IfOk result (λ answer. answer.file ≡ None) }
     ensures memory { IsErrOf result Stop.Fault → ⊥ }
 {
     let options = default_options(alloc)?;
@@ -79,6 +82,7 @@ fn demo_of_list<R: Threads + Wait + Sync, G: Gate>(
 fn tried_answer(alloc: Global, built: &Built, keys: &KeyList) -> Result<Answer, Stop>
     requires { length keys.now ≤ MAX_KEYS }
     ensures done { IfOk result (λ answer. done_of answer ≡ demo_of_index keys.now built.now) }
+    ensures no_file { IfOk result (λ answer. answer.file ≡ None) }
     ensures memory { IsErrOf result Stop.Fault → ⊥ }
 {
     let Ok(tried) = try_encodings(alloc, built, keys) else {
