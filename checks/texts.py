@@ -6,8 +6,8 @@ usage: texts.py PROGRAM
 checks/pilots.tsv: the key file (checks/pilots/NAME.keys, or one of those that `made` describes), further words, the
 status and the text. checks/words.tsv: all words, over a file K of one empty line, the status and the text. A text is
 `text` and the text with \\n for a line feed, or `sha256 SUM length N`; in words.tsv it is the text alone.
-checks/indexes.tsv, queries.tsv, checks.tsv, stats.tsv, demos.tsv and commands.tsv say in their heads what they hold. The stored run of the crate
-`check_index` has indexes with a fault, and the words for each.
+checks/indexes.tsv, queries.tsv, checks.tsv, stats.tsv, demos.tsv and commands.tsv say in their heads what they hold. The stored run of the
+crate `check_index` has indexes with a fault, and the words for each.
 """
 import hashlib
 import pathlib
