@@ -6,8 +6,8 @@ usage: texts.py PROGRAM
 checks/pilots.tsv: the key file (checks/pilots/NAME.keys, or one of those that `made` describes), further words, the
 status and the text. checks/words.tsv: all words, over a file K of one empty line, the status and the text. A text is
 `text` and the text with \\n for a line feed, or `sha256 SUM length N`; in words.tsv it is the text alone.
-checks/indexes.tsv, queries.tsv, checks.tsv, stats.tsv and commands.tsv say in their heads what they hold. The stored run of the crate
-`check_index` has indexes with a fault, and the words for each.
+checks/indexes.tsv, queries.tsv, checks.tsv, stats.tsv, demos.tsv and commands.tsv say in their heads what they hold. The stored run of the
+crate `check_index` has indexes with a fault, and the words for each.
 """
 import hashlib
 import pathlib
@@ -176,6 +176,14 @@ class Checks:
             right = run.returncode == int(status) and run.stdout == plain(want)
             self.same(("stats", version, keys, settings), right, (run.returncode, run.stdout), (status, want))
 
+    def demos(self):
+        for words, status, want in table("demos.tsv"):
+            self.text(words.split(), int(status), "text " + want)
+        run = self.run(["demo", "5000", "1"])
+        lines = run.stdout.decode().splitlines()
+        right = run.returncode == 0 and len(lines) == 21 and all(line.endswith(" sum 12497500") for line in lines[1:])
+        self.same("demo 5000 1", right, (run.returncode, run.stdout), "21 lines, each sum 12497500")
+
     def commands(self):
         self.put("K", b"\n")
         self.run(["build", "K", "I"])
@@ -215,6 +223,7 @@ def main():
         checks.queries()
         checks.checks()
         checks.stats()
+        checks.demos()
         checks.refusals()
         checks.commands()
     print(f"texts and indexes of the program: {checks.passed} passed, {checks.failed} failed")

@@ -173,7 +173,7 @@ given_by-in_range (word ∷ words) first g last h is =
     ] refl is
 
 -- the defaults are in range
-defaults_in_range : IsInRange (options_of nothing_given)
+pub defaults_in_range : IsInRange (options_of nothing_given)
 defaults_in_range = record {
   settings = record {
     some_seed = omega arith;

@@ -1,17 +1,20 @@
 -- The command that words ask for, or the first faulty word.
-use Rattle.std.specs.Prelude.{ℕ, ◌+◌, List, [], ◌∷◌, string_bytes, codes, bytes_eq, if◌then◌else◌, Option, Some, None, Result, Ok, Err}
+use Rattle.std.specs.Prelude.{ℕ, ◌+◌, ◌-◌, ◌^◌, List, [], ◌∷◌, string_bytes, codes, bytes_eq, if◌then◌else◌}
+use Rattle.std.specs.Prelude.{Option, Some, None, Result, Ok, Err}
 use Rattle.command_words.specs.declared.faults.WordFault.{WordFault}
 use Rattle.command_words.specs.declared.kinds.TheConstants.{COMMAND, MISSING, EXTRA, SAME_NAME}
+use Rattle.command_words.specs.declared.demo.TheConstants.{MAX_DEMO_KEYS}
 use Rattle.command_words.specs.declared.words.Command.{Command}
-use Rattle.command_words.specs.declared.words.Command.TheVariants.{Pilots, Build, Query, Check, Stats, Upgrade}
+use Rattle.command_words.specs.declared.words.Command.TheVariants.{Pilots, Build, Query, Check, Stats, Upgrade, Demo}
 use Rattle.command_words.specs.declared.words.Name.{Name}
 use Rattle.command_words.specs.declared.words.Name.TheVariants as name
 use Rattle.command_words.specs.declared.words.TwoNames.{TwoNames}
 use Rattle.command_words.specs.Names.{belongs_to_index, own_or_tmp}
 use Rattle.command_words.specs.Options.{OptionsData, options_data}
 use Rattle.command_words.specs.Settings.{Given, nothing_given, with_word, options_of}
+use Rattle.command_words.specs.Values.{number_in}
 
--- a command: its names as bytes, and its settings
+-- a command: its names as bytes, and its settings or its numbers
 pub data CommandData : Type 0 where
   PilotsOf : List ℕ → OptionsData → CommandData
   BuildOf : List ℕ → List ℕ → OptionsData → CommandData
@@ -19,6 +22,7 @@ pub data CommandData : Type 0 where
   CheckOf : List ℕ → List ℕ → CommandData
   UpgradeOf : List ℕ → List ℕ → CommandData
   StatsOf : List ℕ → CommandData
+  DemoOf : ℕ → ℕ → CommandData
 
 -- a command as data
 abbrev pub command_data : Command → CommandData
@@ -28,6 +32,7 @@ command_data (Query index queries) = QueryOf (string_bytes index) (string_bytes 
 command_data (Check index keys) = CheckOf (string_bytes index) (string_bytes keys)
 command_data (Upgrade index keys) = UpgradeOf (string_bytes index) (string_bytes keys)
 command_data (Stats index) = StatsOf (string_bytes index)
+command_data (Demo demo) = DemoOf demo.count demo.seed
 
 -- a fault of this kind in this word
 abbrev pub fault_at : ℕ → ℕ → WordFault
@@ -112,6 +117,24 @@ stats_of [] = Err (fault_at 1 MISSING)
 stats_of (index ∷ []) = Ok (StatsOf index)
 stats_of (index ∷ extra ∷ more) = Err (fault_at 2 EXTRA)
 
+-- what the number of a word is, or its fault
+abbrev pub in_word : ℕ → Result ℕ ℕ → Result ℕ WordFault
+in_word word (Err kind) = Err (fault_at word kind)
+in_word word (Ok n) = Ok n
+
+-- the command `demo` of two numbers, or the fault of the first that has one, unless more words come after them
+abbrev pub demo_by : Result ℕ WordFault → Result ℕ WordFault → List (List ℕ) → Result CommandData WordFault
+demo_by (Err fault) seed more = Err fault
+demo_by (Ok count) (Err fault) more = Err fault
+demo_by (Ok count) (Ok seed) [] = Ok (DemoOf count seed)
+demo_by (Ok count) (Ok seed) (extra ∷ more) = Err (fault_at 3 EXTRA)
+
+-- the command `demo`, from the words after it: how many keys, and their seed, which is any number
+abbrev pub demo_of : List (List ℕ) → Result CommandData WordFault
+demo_of [] = Err (fault_at 1 MISSING)
+demo_of (count ∷ []) = Err (fault_at 2 MISSING)
+demo_of (count ∷ seed ∷ more) = demo_by (in_word 1 (number_in 1 MAX_DEMO_KEYS count)) (in_word 2 (number_in 0 (2 ^ 64 - 1) seed)) more
+
 -- the name of a command that a word is
 abbrev pub name_of : List ℕ → Option Name
 name_of word =
@@ -121,6 +144,7 @@ name_of word =
     else if bytes_eq word (codes "check") then Some name.Check
     else if bytes_eq word (codes "upgrade") then Some name.Upgrade
     else if bytes_eq word (codes "stats") then Some name.Stats
+    else if bytes_eq word (codes "demo") then Some name.Demo
     else None
 
 -- the command of a name, from the words after it
@@ -132,6 +156,7 @@ command_named (Some name.Query) words = query_of words
 command_named (Some name.Check) words = check_of words
 command_named (Some name.Upgrade) words = upgrade_of words
 command_named (Some name.Stats) words = stats_of words
+command_named (Some name.Demo) words = demo_of words
 
 -- the command that the words after the program's name ask for, or the first faulty word
 unfoldable pub command_of : List (List ℕ) → Result CommandData WordFault

@@ -201,3 +201,10 @@ impl Chosen {
         })
     }
 }
+
+/// The settings where no word gives one.
+pub fn default_options(alloc: Global) -> Result<Options, AllocError>
+    ensures { IfOk result (λ o. options_data o ≡ options_of nothing_given) }
+{
+    Chosen::new().options(alloc)
+}

@@ -2,6 +2,7 @@
 #![tactic(auto)]
 
 mod chosen;
+mod demo;
 mod faults;
 /// The kinds of faults, by their numbers.
 pub mod kinds;
@@ -13,6 +14,8 @@ mod tests;
 mod values;
 mod words;
 
+pub use chosen::default_options;
+pub use demo::{Demo, MAX_DEMO_KEYS};
 pub use faults::{WordFault, WordsErr};
 pub use options::Options;
 pub use settings::{Code, Encoding, How, Map, Settings, Shape};

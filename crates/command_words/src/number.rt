@@ -38,6 +38,7 @@ fn number(text: &str) -> Option<u64>
 // The number that a text spells, from low to high.
 pub(crate) fn read_number(text: &str, low: u64, high: u64) -> Result<u64, Refusal>
     ensures value { Answers (λ x. x) result (number_in low high text.now) }
+    ensures reaches { IfOk result (λ n. low ≤ n) }
     ensures fits { IfOk result (λ n. n ≤ high) }
 {
     let Some(n) = number(text) else {

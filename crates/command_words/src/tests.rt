@@ -117,10 +117,23 @@ const FAULTY_OF_TWO: [(&str, u64, u8); 29] = [
 ];
 
 // The same of the other commands.
-const FAULTY_OF_OTHERS: [(&str, u64, u8); 3] = [
+const FAULTY_OF_OTHERS: [(&str, u64, u8); 16] = [
     ("stats", 1, MISSING),
     ("stats I x", 2, EXTRA),
     ("stats I x=1 y", 2, EXTRA),
+    ("demo", 1, MISSING),
+    ("demo x", 2, MISSING),
+    ("demo 0", 2, MISSING),
+    ("demo x x", 1, NUMBER),
+    ("demo 01 1", 1, NUMBER),
+    ("demo 0 1", 1, RANGE),
+    ("demo 1000001 x", 1, RANGE),
+    ("demo 18446744073709551616 1", 1, NUMBER),
+    ("demo 1000000 x", 2, NUMBER),
+    ("demo 1 01", 2, NUMBER),
+    ("demo 1 18446744073709551616", 2, NUMBER),
+    ("demo 1 x y", 2, NUMBER),
+    ("demo 1 1 1", 3, EXTRA),
 ];
 
 #[test]
@@ -229,5 +242,19 @@ fn names_are_kept_as_they_stand(rt: HostRuntime) -> Result<(), Fail> {
         return Err(Fail::from("a good line is refused"));
     };
     assert_eq!(&rt; index.as_str(), "alpha=1");
+    Ok(())
+}
+
+#[test]
+fn the_numbers_of_a_demonstration_are_kept(rt: HostRuntime) -> Result<(), Fail> {
+    for (line, numbers) in [
+        ("demo 1 0", (1, 0)),
+        ("demo 1000000 18446744073709551615", (1_000_000, u64::MAX)),
+    ] {
+        let Ok(Command::Demo(demo)) = read_line(rt.alloc(), line)? else {
+            return Err(Fail::from("a good line is refused"));
+        };
+        assert_eq!(&rt; (demo.count, demo.seed), numbers);
+    }
     Ok(())
 }

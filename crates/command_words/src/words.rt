@@ -1,16 +1,19 @@
 // From the words after the program's name to the command that they ask for.
-ghost use Rattle.std.specs.Prelude.{◌≡◌, ◌+◌, ◌<◌, ◌^◌, IfOk, IfErr, Ok, Err, Some, length};
+ghost use Rattle.std.specs.Prelude.{◌≡◌, ◌+◌, ◌<◌, ◌≤◌, ◌^◌, IfOk, IfErr, Ok, Err, Some, length};
 ghost use Rattle.command_words.specs.Options.{words_of, options_data};
 ghost use Rattle.command_words.specs.Refusals.{IfBad};
 ghost use Rattle.command_words.specs.Settings.{chosen_values, nothing_given};
+ghost use Rattle.command_words.specs.Values.{number_in};
 ghost use Rattle.command_words.specs.Words.{command_data, name_of, command_named, command_of};
-ghost use Rattle.command_words.specs.Words.{pilots_of, build_of, query_of, check_of, stats_of, upgrade_of};
-ghost use Rattle.command_words.specs.Words.{names_data, two_names, options_in, given_by};
+ghost use Rattle.command_words.specs.Words.{pilots_of, build_of, query_of, check_of, stats_of, upgrade_of, demo_of};
+ghost use Rattle.command_words.specs.Words.{in_word, names_data, two_names, options_in, given_by};
 
 use crate::chosen::Chosen;
+use crate::demo::{Demo, MAX_DEMO_KEYS};
 use crate::faults::{Refusal, WordFault, WordsErr};
 use crate::kinds::{COMMAND, EXTRA, MISSING, SAME_NAME};
 use crate::names::{is_of_index, is_own_or_tmp};
+use crate::number::read_number;
 use crate::options::Options;
 use std::alloc::Global;
 
@@ -41,6 +44,7 @@ pub enum Command {
         index: String,
         keys: String,
     },
+    Demo(Demo),
 }
 
 // The names of two files.
@@ -59,6 +63,7 @@ pub enum Name {
     Check,
     Upgrade,
     Stats,
+    Demo,
 }
 
 /// The command that the words after the program's name ask for, or the first faulty word.
@@ -93,6 +98,7 @@ fn name_in(word: &str) -> Option<Name>
         "check" => Some(Name::Check),
         "upgrade" => Some(Name::Upgrade),
         "stats" => Some(Name::Stats),
+        "demo" => Some(Name::Demo),
         _ => None,
     }
 }
@@ -111,6 +117,7 @@ fn read_command(alloc: Global, name: Name, words: &[String]) -> Result<Command, 
         Name::Check => read_check(alloc, words),
         Name::Upgrade => read_upgrade(alloc, words),
         Name::Stats => read_stats(alloc, words),
+        Name::Demo => read_demo(words),
     }
 }
 
@@ -222,6 +229,40 @@ fn read_stats(alloc: Global, words: &[String]) -> Result<Command, WordsErr>
         return Ok(Command::Stats { index });
     }
     Err(bad(2, EXTRA))
+}
+
+// The command `demo`, from the words after it.
+fn read_demo(words: &[String]) -> Result<Command, WordsErr>
+    ensures ok { IfOk result (λ c. demo_of (words_of words.now) ≡ Ok (command_data c)) }
+    ensures bad { IfErr result (IfBad (λ fault. demo_of (words_of words.now) ≡ Err fault)) }
+{
+    let Some((count, rest)) = words.split_first() else {
+        return Err(bad(1, MISSING));
+    };
+    let Some((seed, more)) = rest.split_first() else {
+        return Err(bad(2, MISSING));
+    };
+    let count = number_in_word(1, count, 1, MAX_DEMO_KEYS)?;
+    let seed = number_in_word(2, seed, 0, u64::MAX)?;
+    if more.is_empty() {
+        return Ok(Command::Demo(Demo { count, seed }));
+    }
+    Err(bad(3, EXTRA))
+}
+
+// The number that this word spells, from low to high.
+fn number_in_word(word: u64, text: &str, low: u64, high: u64) -> Result<u64, WordsErr>
+    ensures ok { IfOk result (λ n. in_word word (number_in low high text.now) ≡ Ok n) }
+    ensures bad { IfErr result (IfBad (λ fault.
+        in_word word (number_in low high text.now) ≡ Err fault)) }
+    ensures reaches { IfOk result (λ n. low ≤ n) }
+    ensures fits { IfOk result (λ n. n ≤ high) }
+{
+    match read_number(text, low, high) {
+        Ok(n) => Ok(n),
+        Err(Refusal::Kind(kind)) => Err(bad(word, kind)),
+        Err(Refusal::NoMemory) => Err(WordsErr::NoMemory),
+    }
 }
 
 // The settings that words give, the first of them in this word.

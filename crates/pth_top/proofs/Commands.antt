@@ -4,16 +4,17 @@ use Rattle.std.specs.Prelude.{IsSomeAnd, option_and_then}
 use Rattle.std.specs.FinMap as map
 use Rattle.build_outcome.specs.Index.{IndexData}
 use Rattle.command_words.specs.Options.{OptionsData}
-use Rattle.command_words.specs.Words.{PilotsOf, BuildOf, QueryOf, CheckOf, StatsOf, UpgradeOf}
+use Rattle.command_words.specs.Words.{PilotsOf, BuildOf, QueryOf, CheckOf, StatsOf, UpgradeOf, DemoOf}
 use Rattle.index_file.specs.Encoded.{EncodedIndex}
 use Rattle.index_text.specs.Text.{index_text, IsIndex}
 use Rattle.pth_outside.specs.Files.{FileMap, FilesState, ReadsFiles, OfFile, contents}
-use Rattle.pth_outside.specs.FilesLaws.{ReadsFiles-if}
+use Rattle.pth_outside.specs.FilesLaws.{ReadsFiles-if, ReadsFiles-none}
 use Rattle.pth_outside.specs.Keys.{keys_of}
 use Rattle.pth_top.specs.declared.answer.Answer.{Answer}
 use Rattle.pth_top.specs.declared.answer.Stop.{Stop}
 use Rattle.pth_top.specs.declared.answer.Stop.TheVariants.{Fault}
 use Rattle.pth_top.specs.Build.{build_result, index_file_of, IsFileFor, IsIndexFile}
+use Rattle.pth_top.specs.Demo.{demo_result}
 use Rattle.pth_top.specs.Done.{Done, NewFileData, done_of, with_file, with_new}
 use Rattle.pth_top.specs.Ending.{Answers}
 use Rattle.pth_top.specs.Lists.{IsIndexFor}
@@ -25,7 +26,7 @@ use Rattle.pth_top.proofs.Listed.{over_file, over_none}
 use Rattle.pth_top.proofs.Replacing.{with_new-name}
 
 -- what follows of each answer
-each_ok : (answer : Result Answer Stop) (P Q : Answer → Type 0) → ((a : Answer) → P a → Q a) → IfOk answer P → IfOk answer Q
+pub each_ok : (answer : Result Answer Stop) (P Q : Answer → Type 0) → ((a : Answer) → P a → Q a) → IfOk answer P → IfOk answer Q
 each_ok (Ok a) P Q follows holds = follows a holds
 each_ok (Err stop) P Q follows holds = tt
 
@@ -119,6 +120,22 @@ answers_stats index answer old new done reads = record {
       (λ a of. over_file old.told index stats_result (done_of a) of) done;
   builds = nothing_built answer old.told;
   reads = ReadsFiles-if old new (λ is. is) (over_none old.told index stats_result) reads;
+}
+
+-- what is said whatever the files tell
+over_any : (told : Option FileMap) (given : Option Done) (d : Option Done) → given ≡ d → IfSome told (λ m. given ≡ d)
+over_any None given d is = tt
+over_any (Some m) given d is = is
+
+-- the answer of `demo`, which has no call on files
+pub answers_demo : (count seed : ℕ) (answer : Result Answer Stop) (files : FilesState) →
+    IfOk answer (λ a. demo_result count seed ≡ done_of a) → (IsErrOf answer Fault → ⊥) → Answers (Ok (DemoOf count seed)) answer files files
+answers_demo count seed answer files done no_fault = record {
+  done = each_ok answer (λ a. demo_result count seed ≡ done_of a)
+      (λ a. IfSome files.told (λ m. command_result (Ok (DemoOf count seed)) m ≡ Some (done_of a)))
+      (λ a is. over_any files.told (Some (demo_result count seed)) (Some (done_of a)) (ap Some is)) done;
+  builds = nothing_built answer files.told;
+  reads = ReadsFiles-none files no_fault;
 }
 
 -- the file of an index that was built

@@ -1,27 +1,25 @@
 -- How commands end.
-use Rattle.std.proofs.Common.{◌≡◌, ◌≢◌, ◌≤◌, ℕ, List, Option, Some, None, Result}
-use Rattle.std.proofs.Common.{Ok, Err, IsSome, IsErr, IfSome, IfOk, IfErr, option_map, IsErrOf}
+use Rattle.std.proofs.Common.{◌≡◌, ◌≢◌, ◌≤◌, ℕ, false, List, Option, Some, None, Result}
+use Rattle.std.proofs.Common.{Ok, Err, IsSome, IsErr, IfSome, IfOk, IfErr, option_map}
 use Rattle.std.proofs.Common.{inl, inr, ⊎_elim, refl, sym, ap, subst, ◌∙◌, arith}
 use Rattle.std.specs.Prelude.{◌⊎◌, IsSomeAnd, option_and_then}
-use Rattle.std.specs.FinMap as map
 use Rattle.command_words.specs.declared.faults.WordFault.{WordFault}
 use Rattle.command_words.specs.Names.{tmp_of}
 use Rattle.command_words.specs.Words.{CommandData}
 use Rattle.pth_outside.specs.Files.{FileMap, FilesState, LeavesFiles, ReadsFiles, contents}
 use Rattle.pth_outside.specs.FilesLaws.{ReadsFiles-leaves, ReadsFiles-none, ReadsFiles-if, LeavesFiles-ok, LeavesFiles-if, LeavesFiles-then}
 use Rattle.pth_outside.specs.Sink.{SinkState, LeavesSink, written, Prints, WritesFront}
-use Rattle.pth_outside.specs.SinkLaws.{LeavesSink-if}
 use Rattle.pth_top.specs.declared.TheConstants.{FILE_FAULT, FAILED_OUTPUT, CHECK_FAILED, NO_MEMORY, REPEATED_KEY, WORDS_REFUSED}
 use Rattle.pth_top.specs.declared.answer.Answer.{Answer}
 use Rattle.pth_top.specs.declared.answer.NewFile.{NewFile}
 use Rattle.pth_top.specs.declared.answer.Stop.{Stop}
-use Rattle.pth_top.specs.declared.answer.Stop.TheVariants.{Fault, NoMemory}
+use Rattle.pth_top.specs.declared.answer.Stop.TheVariants.{Fault}
 use Rattle.pth_top.specs.Done.{Done, NewFileData, done_of, new_file_data, with_file, with_new}
-use Rattle.pth_top.specs.Ending.{EndsAs, IsCutOff, IsDone, ChangesOnly, LeavesNames, LeavesFor, Answers, Finishes, GivesUp, Ends}
+use Rattle.pth_top.specs.Ending.{EndsAs, IsCutOff, IsDone, LeavesFor, Answers, Finishes, GivesUp, Ends}
 use Rattle.pth_top.specs.Finishing.{KeepsBut}
 use Rattle.pth_top.specs.Statuses.{IsOfCommand, IsStatus}
 use Rattle.pth_top.specs.Texts.{file_fault, no_memory}
-use Rattle.pth_top.specs.Words.{refused, command_result, new_file, CommandRepeats, CommandBuilds}
+use Rattle.pth_top.specs.Words.{refused, command_result, new_file, CommandBuilds}
 use Rattle.pth_top.proofs.Replacing.{name_is_not_tmp, with_new-name, with_new-other}
 use Rattle.pth_top.proofs.Repeats.{command_repeats}
 
@@ -309,6 +307,16 @@ ends_command command (Err stop) status f g h s s' answers finishes undone no_cal
     subst (λ (k : FilesState). Ends command status f k s s') (sym (no_call refl))
     (ends_stopped command status f g s s' (ReadsFiles-if f g (λ (is : stop ≡ Fault). ap Err is) (λ why. why) answers.reads) undone)
 
+-- a command whose answer has another status than that of a repeated key doesn't end with it
+pub not_repeated : (answer : Result Answer Stop) (status : ℕ) (f f' : FilesState) (s s' : SinkState) →
+    IfOk answer (λ a. Finishes (done_of a) status f f' s s') → IfErr answer (λ stop. GivesUp (stop ≡ Fault) status s s') →
+    IfOk answer (λ a. a.status ≢ REPEATED_KEY) → status ≢ REPEATED_KEY
+not_repeated (Ok a) status f f' s s' finishes undone other four =
+    let ends : EndsAs (done_of a) status s s' f.told f'.told = finishes.ends (own_status status (inr four)) in
+    other (sym ends.status_is ∙ four)
+not_repeated (Err stop) status f f' s s' finishes undone other four =
+    gave_up_two status undone.statuses (λ is. omega arith) (λ is. omega arith)
+
 -- words that are refused give their refusal over whatever files
 pub refused_over : (fault : WordFault) (told : Option FileMap) → IfSome told (λ m. command_result (Err fault) m ≡ Some (refused fault))
 refused_over fault None = tt
@@ -322,3 +330,16 @@ leaves_none f = ReadsFiles-leaves f f (ReadsFiles-none f (λ none. none))
 pub some_file : (file : Option NewFile) → IsSome (option_map new_file_data file) → IsSome file
 some_file None some = some
 some_file (Some file) some = refl
+
+-- files that tell nothing
+pub silent_files : FilesState
+silent_files = record { told = None; faults = 0; sure = false }
+
+-- a command on no file whose text was handed over
+pub finishes_text : (a : Answer) (result : ℕ) (text : List ℕ) (f : FilesState) (s s' : SinkState) →
+    text ≡ (done_of a).text → a.file ≡ None → IsShown a.status result text s s' → Finishes (done_of a) result f f s s'
+finishes_text a result text f s s' says none shown =
+    let d = done_of a in
+    let no_new : d.file ≡ None = ap (option_map new_file_data) none in
+    finishes_shown d result text f f s s' says a.own a.few (λ some. a.done (some_file a.file some))
+    (subst (λ (x : Option NewFileData). f.told ≡ option_map (with_file x) f.told) (sym no_new) (no_new_file f.told)) (leaves_none f) shown

@@ -1,17 +1,13 @@
 -- Indexes that are refused, by what reading answers.
-use Rattle.std.proofs.Common.{◌≡◌, ◌<◌, ℕ, cond, Bool, true, List, length, Result, Ok, Err, refl, ap, ◌∙◌}
+use Rattle.std.proofs.Common.{◌≡◌, ◌<◌, ℕ, true, List, length, Ok, Err, refl, ap}
 use Rattle.std.specs.Prelude.{nat_lt}
 use Rattle.std.proofs.lemmas.Bool.{lt-ltb}
-use Rattle.pilot_codecs.specs.declared.code.Encoding.{Encoding}
-use Rattle.build_outcome.specs.Index.{IndexData}
 use Rattle.index_file.specs.Encoded.{EncodedIndex}
 use Rattle.index_text.specs.declared.fault.IndexFault.{IndexFault}
 use Rattle.index_text.specs.declared.fault.IndexFault.TheVariants as faults
 use Rattle.index_text.specs.declared.head.TheConstants.{MAX_BYTES}
-use Rattle.index_text.specs.Faults.{Fails, Gives, ◌>>=◌}
 use Rattle.index_text.specs.Fields.{sealed_at}
 use Rattle.index_text.specs.Reading.{index_at}
-use Rattle.pth_top.specs.Done.{Done}
 use Rattle.pth_top.specs.Query.{faulty_result, index_read, unless_faulty}
 
 -- bytes that are too many

@@ -1,7 +1,7 @@
 -- The list of a file and its index, by what reading and building answer.
 use Rattle.std.proofs.Common.{◌≡◌, ℕ, ◌≤◌, false, true, cond, List, [], ◌∷◌, length}
-use Rattle.std.proofs.Common.{take, Option, Some, None, Result, Ok, Err, IsSome, IfSome}
-use Rattle.std.proofs.Common.{option_map, refl, sym, ap, ◌∙◌, subst, arith}
+use Rattle.std.proofs.Common.{take, Option, Some, None, Result, Ok, Err, IfSome}
+use Rattle.std.proofs.Common.{option_map, refl, sym, ap, ◌∙◌, arith}
 use Rattle.std.specs.Prelude.{IsSomeAnd, nat_lt, codes}
 use Rattle.std.specs.FinMap as fin
 use Rattle.std.proofs.lemmas.Bool.{lt-ltb, le-ltb}
@@ -14,7 +14,7 @@ use Rattle.pth_outside.specs.Files.{FileMap, OfFile, contents}
 use Rattle.pth_outside.specs.Keys.{keys_of, first_too_long, AreTooMany}
 use Rattle.pth_top.specs.Done.{Done}
 use Rattle.pth_top.specs.Lists.{and_then, too_long_result, too_many_result, no_keys_result, unless_too_long, list_in}
-use Rattle.pth_top.specs.Lists.{index_by, index_for, index_in, IsIndexFor}
+use Rattle.pth_top.specs.Lists.{index_by, index_for, index_in}
 
 -- what holds of the bytes of a file, follows from what else holds of them
 pub of_file : (told : Option FileMap) (name : List ℕ) (P Q : List ℕ → Type 0) → ((bytes : List ℕ) → P bytes → Q bytes) →

@@ -1,14 +1,16 @@
 -- A list that is refused for a repeated key has one.
-use Rattle.std.proofs.Common.{◌≡◌, ℕ, true, false, cond, List, [], ◌∷◌, length, take, Option}
+use Rattle.std.proofs.Common.{◌≡◌, ◌≢◌, ℕ, true, false, cond, List, [], ◌∷◌, length, take, Option}
 use Rattle.std.proofs.Common.{Some, None, Result, Ok, Err, IfSome, option_map, refl, ap, ◌∙◌, arith}
 use Rattle.std.specs.Prelude.{IsSomeAnd, nat_lt, codes, option_and_then}
 use Rattle.std.specs.FinMap as map
+use Rattle.build_outcome.specs.BuiltLaws.{AreDistinctKeys}
 use Rattle.build_outcome.specs.Index.{KeyMarkData, IndexData}
 use Rattle.build_outcome.specs.Outcome.{Outcome, repeated, exhausted, built, outcome_of}
 use Rattle.build_outcome.specs.OutcomeLaws.{repeated_key}
 use Rattle.command_words.specs.declared.faults.WordFault.{WordFault}
 use Rattle.command_words.specs.Options.{OptionsData}
-use Rattle.command_words.specs.Words.{CommandData, PilotsOf, BuildOf, QueryOf, CheckOf, StatsOf, UpgradeOf}
+use Rattle.command_words.specs.Words.{CommandData, PilotsOf, BuildOf, QueryOf, CheckOf, StatsOf, UpgradeOf, DemoOf}
+use Rattle.demo_index.specs.Keys.{demo_keys_of}
 use Rattle.hem_build.specs.Rules.{rules_of}
 use Rattle.index_file.specs.Encoded.{EncodedIndex}
 use Rattle.index_text.specs.declared.fault.IndexFault.{IndexFault}
@@ -22,9 +24,10 @@ use Rattle.pth_outside.specs.Keys.{keys_of, first_too_long}
 use Rattle.pth_top.specs.declared.TheConstants.{REPEATED_KEY}
 use Rattle.pth_top.specs.Done.{Done}
 use Rattle.pth_top.specs.Lists.{HasRepeat, and_then, gives, list_in, unless_too_long, too_many_result, index_by, index_for, index_in}
-use Rattle.pth_top.specs.Build.{build_result, index_file_of}
+use Rattle.pth_top.specs.Build.{index_file_of}
 use Rattle.pth_top.specs.Check.{check_result, good_result, mark_found}
-use Rattle.pth_top.specs.Pilots.{pilots_result, pilots_of_index}
+use Rattle.pth_top.specs.Demo.{default_settings, demo_of_index, demo_of_keys, demo_result}
+use Rattle.pth_top.specs.Pilots.{pilots_of_index}
 use Rattle.pth_top.specs.Query.{faulty_result, index_read, unless_faulty, query_result, values_of}
 use Rattle.pth_top.specs.Upgrade.{upgraded_from, upgrade_result}
 use Rattle.pth_top.specs.Stats.{stats_of_index, stats_result}
@@ -46,6 +49,17 @@ unfolding index_for
 of_keys o [] give zero status = absurd (omega arith)
 of_keys o (key ∷ keys) give zero status =
     of_outcome o (key ∷ keys) (outcome_of (rules_of o.settings) (key ∷ keys) o.settings.seeds) give zero refl status
+
+-- keys that a demonstration generates, with this status
+of_demo : (count seed : ℕ) (d : Done) → demo_result count seed ≡ d → d.status ≡ REPEATED_KEY → HasRepeat (demo_keys_of count seed)
+of_demo count seed d is status =
+    of_keys default_settings (demo_keys_of count seed) (demo_of_index (demo_keys_of count seed)) (λ x. refl) (ap (λ (x : Done). x.status) is ∙ status)
+
+-- a list in which no key comes twice never has this status
+pub demo_of_keys-distinct : (keys : List (List ℕ)) (d : Done) → AreDistinctKeys keys → demo_of_keys keys ≡ d → d.status ≢ REPEATED_KEY
+demo_of_keys-distinct keys d distinct is status =
+    let twice = of_keys default_settings keys (demo_of_index keys) (λ x. refl) (ap (λ (x : Done). x.status) is ∙ status) in
+    distinct twice.first twice.second twice.repeat.places.earlier twice.repeat.places.within twice.repeat.equal
 
 -- lines with this status
 of_lines : (o : OptionsData) (lines : List (List ℕ)) (long : Option ℕ) (give : IndexData → Done) → ((x : IndexData) → (give x).status ≡ 0) →
@@ -174,6 +188,7 @@ of_command (Ok (CheckOf index keys)) m d is status =
 of_command (Ok (UpgradeOf index keys)) m d is status =
     absurd (not_of_files (upgrade_result index) (not_of_upgrade index) (map.get m index) (map.get m keys) d is status)
 of_command (Ok (StatsOf index)) m d is status = absurd (not_of_stats (map.get m index) d is status)
+of_command (Ok (DemoOf count seed)) m d is status = let same : demo_result count seed ≡ d = cc in of_demo count seed d same status
 
 -- a command over files that tell
 pub command_repeats : (command : Result CommandData WordFault) (told : Option FileMap) (d : Done) →

@@ -1,7 +1,7 @@
 -- A file that is written under another name and put in its place.
 use Rattle.std.proofs.Common.{◌≡◌, ◌≢◌, ℕ, ◌+◌, ◌-◌, List, [], ◌++◌, length, take, drop}
 use Rattle.std.proofs.Common.{slice_range, Option, Some, None, Result, Ok, Err, OnErr, option_map, IsErrOf}
-use Rattle.std.proofs.Common.{refl, sym, ap, ◌∙◌, subst, length-append, arith}
+use Rattle.std.proofs.Common.{refl, sym, ap, ◌∙◌, length-append, arith}
 use Rattle.std.proofs.Math.Seq.{take-add}
 use Rattle.std.proofs.lemmas.List.{append_assoc}
 use Rattle.std.specs.Prelude.{codes}

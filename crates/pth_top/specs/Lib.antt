@@ -8,6 +8,7 @@ pub mod Query
 pub mod Check
 pub mod Upgrade
 pub mod Stats
+pub mod Demo
 pub mod Words
 pub mod Ending
 pub mod Finishing

@@ -1,5 +1,5 @@
 -- What `upgrade` gives for the bytes of an index and of a key file.
-use Rattle.std.specs.Prelude.{◌≡◌, ℕ, List, length, codes, Option, Some, None}
+use Rattle.std.specs.Prelude.{ℕ, List, length, Option, Some, None}
 use Rattle.build_outcome.specs.Index.{KeyMarkData}
 use Rattle.index_file.specs.Encoded.{EncodedIndex, marked}
 use Rattle.index_text.specs.Text.{index_text}

@@ -2,13 +2,15 @@
 use Rattle.std.specs.Prelude.{ℕ, List, Option, Some, Result, Ok, Err, IsSomeAnd, option_map, option_and_then}
 use Rattle.std.specs.FinMap as fin
 use Rattle.command_words.specs.declared.faults.WordFault.{WordFault}
-use Rattle.command_words.specs.Words.{CommandData, PilotsOf, BuildOf, QueryOf, CheckOf, StatsOf, UpgradeOf, command_of}
+use Rattle.command_words.specs.Words.{CommandData, PilotsOf, BuildOf, QueryOf, CheckOf, StatsOf, UpgradeOf, DemoOf, command_of}
+use Rattle.demo_index.specs.Keys.{demo_keys_of}
 use Rattle.index_file.specs.Encoded.{EncodedIndex}
 use Rattle.pth_outside.specs.Files.{FileMap, contents}
 use Rattle.pth_outside.specs.Keys.{keys_of}
 use Rattle.pth_top.specs.declared.TheConstants.{WORDS_REFUSED}
 use Rattle.pth_top.specs.Done.{Done, NewFileData, said}
 use Rattle.pth_top.specs.Build.{build_result, IsFileFor}
+use Rattle.pth_top.specs.Demo.{demo_result}
 use Rattle.pth_top.specs.Lists.{HasRepeat}
 use Rattle.pth_top.specs.Pilots.{pilots_result}
 use Rattle.pth_top.specs.Check.{check_result}
@@ -40,6 +42,7 @@ command_result (Ok (QueryOf index queries)) files = over_index files index queri
 command_result (Ok (CheckOf index keys)) files = over_index files index keys check_result
 command_result (Ok (UpgradeOf index keys)) files = over_index files index keys (upgrade_result index)
 command_result (Ok (StatsOf index)) files = option_map stats_result (fin.get files index)
+command_result (Ok (DemoOf count seed)) files = Some (demo_result count seed)
 
 -- what words give over files
 abbrev pub done : List (List ℕ) → FileMap → Option Done
@@ -49,7 +52,7 @@ done words files = command_result (command_of words) files
 abbrev pub new_file : Result CommandData WordFault → Option FileMap → Option NewFileData
 new_file command told = option_and_then (λ files. option_and_then (λ d. d.file) (command_result command files)) told
 
--- the command builds of a key file that is there, and has a key twice
+-- the command builds of a key file that is there, and has a key twice, or of keys that it generates
 abbrev pub CommandRepeats : Result CommandData WordFault → FileMap → Type 0
 CommandRepeats (Err fault) files = ⊥
 CommandRepeats (Ok (PilotsOf keys options)) files = IsSomeAnd (fin.get files keys) (λ bytes. HasRepeat (keys_of bytes))
@@ -58,6 +61,7 @@ CommandRepeats (Ok (QueryOf index queries)) files = ⊥
 CommandRepeats (Ok (CheckOf index keys)) files = ⊥
 CommandRepeats (Ok (UpgradeOf index keys)) files = ⊥
 CommandRepeats (Ok (StatsOf index)) files = ⊥
+CommandRepeats (Ok (DemoOf count seed)) files = HasRepeat (demo_keys_of count seed)
 
 -- where the command is a build, its index is now the file of an index for the keys that the key file had
 abbrev pub CommandBuilds : Result CommandData WordFault → FileMap → Option FileMap → Type 0
@@ -69,3 +73,4 @@ CommandBuilds (Ok (QueryOf index queries)) files new = Unit {0}
 CommandBuilds (Ok (CheckOf index keys)) files new = Unit {0}
 CommandBuilds (Ok (UpgradeOf index keys)) files new = Unit {0}
 CommandBuilds (Ok (StatsOf index)) files new = Unit {0}
+CommandBuilds (Ok (DemoOf count seed)) files new = Unit {0}

@@ -2,7 +2,7 @@
 ghost use Rattle.std.specs.Prelude.{◌≡◌, ◌≢◌, ◌≤◌, ◌⊎◌, None, length, option_map, string_bytes};
 ghost use Rattle.std.specs.Prelude.{IfOk, IfErr, IsErr, OnOk, OnErr, IsErrOf};
 ghost use Rattle.command_words.specs.Names.{tmp_of};
-ghost use Rattle.pth_outside.specs.Files.{LeavesFiles, appended, contents};
+ghost use Rattle.pth_outside.specs.Files.{FilesState, LeavesFiles, appended, contents};
 ghost use Rattle.pth_outside.specs.Sink.{LeavesSink, Prints, WritesFront, written};
 ghost use Rattle.pth_top.specs.Done.{done_of, new_file_data, with_file, with_new};
 ghost use Rattle.pth_top.specs.Ending.{ChangesOnly, Finishes, GivesUp};
@@ -17,8 +17,8 @@ use std::alloc::{AllocError, Global};
 // The most bytes that are handed to the files at a time.
 const PIECE: usize = 65536;
 
-/// Ends a command, the one call that does: its file is written under another name and put in place by the last call on
-/// the files, then its text is handed over. Answers the status.
+/// Ends a command on files: its file is written under another name and put in place by the last call on the files, then its
+/// text is handed over. Answers the status.
 pub fn finish<F: Files, O: Sink>(
     alloc: Global,
     answer: Result<Answer, Stop>,
@@ -33,6 +33,21 @@ pub fn finish<F: Files, O: Sink>(
 {
     match answer {
         Ok(answer) => finish_done(alloc, &answer, files, out),
+        Err(stop) => give_up(stop, out),
+    }
+}
+
+/// Ends a command on no file: its text is handed over. Answers the status.
+pub fn finish_text<O: Sink>(answer: Result<Answer, Stop>, out: &mut O) -> u8
+    requires { IfOk answer (λ answer. answer.file ≡ None) }
+    // The files stay, whatever they tell.
+    ensures done { (files : FilesState) → IfOk answer (λ answer. Finishes (done_of answer) result
+        files files (O.state out.old) (O.state out.new)) }
+    ensures undone { IfErr answer (λ stop.
+        GivesUp (stop ≡ Stop.Fault) result (O.state out.old) (O.state out.new)) }
+{
+    match answer {
+        Ok(answer) => show(out, answer.status, answer.text.as_bytes()),
         Err(stop) => give_up(stop, out),
     }
 }

@@ -6,6 +6,9 @@ mod build;
 mod check;
 #[cfg(test)]
 mod check_tests;
+mod demo;
+#[cfg(test)]
+mod demo_tests;
 mod finish;
 #[cfg(test)]
 mod index_tests;

@@ -70,8 +70,8 @@ pub fn build_list<R: Threads + Wait + Sync, F: Files, G: Gate>(
     }
 }
 
-// The index of some keys, or the refusal that they and the settings deserve.
-fn build_all<R: Threads + Wait + Sync, G: Gate>(
+/// The index of some keys, or the refusal that they and the settings deserve.
+pub fn build_all<R: Threads + Wait + Sync, G: Gate>(
     rt: &R,
     alloc: Global,
     keys: &KeyList,

@@ -1,8 +1,8 @@
 // The top call: from the words to a status, a text and the files.
-ghost use Rattle.std.specs.Prelude.{◌≡◌, ◌≢◌, Err, IfSome, IsErr, IsSomeAnd, None};
+ghost use Rattle.std.specs.Prelude.{◌≡◌, ◌≢◌, ℕ, Ok, Err, IfSome, IsErr, IsSomeAnd, None};
 ghost use Rattle.command_words.specs.declared.faults.WordFault.{WordFault};
 ghost use Rattle.command_words.specs.Options.{words_of};
-ghost use Rattle.command_words.specs.Words.{command_of};
+ghost use Rattle.command_words.specs.Words.{DemoOf, command_of};
 ghost use Rattle.pth_outside.specs.Files.{FilesState, LeavesFiles};
 ghost use Rattle.pth_outside.specs.Sink.{LeavesSink, Prints, WritesFront};
 ghost use Rattle.pth_top.specs.Ending.{Ends, EndsAs, IsCutOff, IsDone, LeavesFor};
@@ -12,6 +12,7 @@ ghost use Rattle.pth_top.specs.Words.{refused, done, new_file, CommandBuilds, Co
 
 use crate::build::build_command;
 use crate::check::check_command;
+use crate::demo::demo_command;
 use crate::finish::{show, show_want};
 use crate::pilots::pilots_command;
 use crate::query::query_command;
@@ -51,6 +52,13 @@ pub fn run<R: Threads + Wait + Sync, F: Files, O: Sink, G: Gate>(
         (O.state out.old) (O.state out.new) (F.state files.old).told (F.state files.new).told }
     ensures no_call { IsErr (command_of (words_of words.now)) → files.new ≡ files.old }
     ensures only_refused { result ≡ WORDS_REFUSED → IsErr (command_of (words_of words.now)) }
+
+    // A demonstration needs no files: it ends alike whatever they tell, with no call on them.
+    ensures demo { (count seed : ℕ) → command_of (words_of words.now) ≡ Ok (DemoOf count seed) →
+        (any : FilesState) → Ends (Ok (DemoOf count seed)) result
+        any any (O.state out.old) (O.state out.new) }
+    ensures demo_no_call { (count seed : ℕ) →
+        command_of (words_of words.now) ≡ Ok (DemoOf count seed) → files.new ≡ files.old }
 
     // Pairwise different keys are never refused for a repeat.
     ensures repeated { result ≡ REPEATED_KEY →
@@ -100,6 +108,11 @@ fn run_words<R: Threads + Wait + Sync, F: Files, O: Sink, G: Gate>(
         result ≢ NO_MEMORY → EndsAs (refused fault) result
         (O.state out.old) (O.state out.new) (F.state files.old).told (F.state files.new).told }
     ensures no_call { IsErr (command_of (words_of words.now)) → files.new ≡ files.old }
+    ensures demo { (count seed : ℕ) → command_of (words_of words.now) ≡ Ok (DemoOf count seed) →
+        (any : FilesState) → Ends (Ok (DemoOf count seed)) result
+        any any (O.state out.old) (O.state out.new) }
+    ensures demo_no_call { (count seed : ℕ) →
+        command_of (words_of words.now) ≡ Ok (DemoOf count seed) → files.new ≡ files.old }
 {
     match read_words(alloc, words) {
         Ok(Command::Pilots { keys, options }) => {
@@ -116,6 +129,7 @@ fn run_words<R: Threads + Wait + Sync, F: Files, O: Sink, G: Gate>(
         Ok(Command::Check { index, keys }) => check_command(alloc, &index, &keys, files, out),
         Ok(Command::Upgrade { index, keys }) => upgrade_command(alloc, &index, &keys, files, out),
         Ok(Command::Stats { index }) => stats_command(alloc, &index, files, out),
+        Ok(Command::Demo(keys)) => demo_command(rt, alloc, keys, out, gate),
         Err(WordsErr::Bad(fault)) => refuse(alloc, fault, out),
         Err(WordsErr::NoMemory) => show_want(out),
     }

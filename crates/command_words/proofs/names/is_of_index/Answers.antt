@@ -1,4 +1,4 @@
-use Rattle.std.proofs.Common.{◌≡◌, Bool, false, List, ℕ, length, drop, eqb, ◌&&◌, sym, ap, ◌∙◌}
+use Rattle.std.proofs.Common.{◌≡◌, Bool, false, length, drop, eqb, ◌&&◌, sym, ap}
 use Rattle.std.specs.List.{starts_with}
 use Rattle.command_words.specs.Names.{follows_index}
 use Rattle.command_words.proofs.names.is_of_index.Goals as goal

@@ -1,4 +1,4 @@
-use Rattle.std.proofs.Common.{◌≡◌, Bool, false, List, ℕ, length, drop, eqb, ◌&&◌, sym, ap, ◌∙◌}
+use Rattle.std.proofs.Common.{◌≡◌, Bool, false, length, drop, eqb, ◌&&◌, sym, ap}
 use Rattle.std.specs.List.{starts_with}
 use Rattle.command_words.specs.Names.{none_or_tmp}
 use Rattle.command_words.proofs.names.is_own_or_tmp.Goals as goal

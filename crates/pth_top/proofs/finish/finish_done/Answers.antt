@@ -1,4 +1,3 @@
-use Rattle.std.proofs.Common.{◌∙◌}
 use Rattle.pth_top.specs.Done.{done_of}
 use Rattle.pth_top.proofs.Endings.{finishes_shown, some_file}
 use Rattle.pth_top.proofs.finish.finish_done.Goals as goal

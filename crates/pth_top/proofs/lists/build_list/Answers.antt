@@ -1,4 +1,4 @@
-use Rattle.std.proofs.Common.{◌≡◌, List, ℕ, ap, ◌∙◌}
+use Rattle.std.proofs.Common.{◌≡◌, ap, ◌∙◌}
 use Rattle.std.specs.Prelude.{codes}
 use Rattle.command_words.specs.Options.{options_data}
 use Rattle.pth_top.specs.Done.{done_of, or_refused}

@@ -1,7 +1,5 @@
-use Rattle.std.proofs.Common.{◌≡◌, List, ℕ, Some, Err, sym, ap, ◌∙◌, rules, length, take}
+use Rattle.std.proofs.Common.{◌≡◌, Some, Err, sym, ap, ◌∙◌, rules, take}
 use Rattle.pth_outside.specs.Keys.{keys_of, first_too_long, AreTooMany}
-use Rattle.pth_top.specs.Done.{Done, done_of}
-use Rattle.pth_top.specs.Lists.{list_in}
 use Rattle.pth_top.proofs.Listed.{of_file, list_in-read, list_in-too_long, list_in-too_many}
 use Rattle.pth_top.proofs.lists.read_list.Goals as goal
 
