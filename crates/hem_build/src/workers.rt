@@ -1,5 +1,5 @@
 // How workers are shared out: over groups of partitions, and within a group over its searches.
-ghost use Rattle.std.specs.Prelude.{◌≡◌, ◌≤◌};
+ghost use Rattle.std.specs.Prelude.{◌≡◌, ◌*◌, ◌≤◌};
 ghost use Rattle.settings.specs.Workers.{workers_of};
 ghost use Rattle.hem_build.specs.declared.workers.TheConstants.{MOST_GROUPS};
 
@@ -31,12 +31,13 @@ pub(crate) fn group_count(how: How, partitions: u64) -> u64
         .min(partitions)
 }
 
-// How one of so many groups is searched: each has as many workers as the next.
+// How one of so many groups is searched: each has as many workers as the next, and all together no more than there are.
 pub(crate) fn how_in_group(how: How, groups: u64) -> How
     requires some { 1 ≤ groups }
     requires few { groups ≤ workers_of how }
     ensures some { 1 ≤ workers_of result }
     ensures few { workers_of result ≤ workers_of how }
+    ensures shared { workers_of result * groups ≤ workers_of how }
 {
     match how {
         How::Alone => How::Alone,
@@ -50,6 +51,7 @@ fn share(workers: u32, groups: u64) -> u32
     requires few { groups ≤ workers }
     ensures some { 1 ≤ result }
     ensures few { result ≤ workers }
+    ensures shared { result * groups ≤ workers }
 {
     (u64::from(workers) / groups) as u32
 }
