@@ -1,6 +1,6 @@
 // The search of a plan by several workers.
 
-ghost use Rattle.std.specs.Prelude.{◌≡◌, ◌≤◌, All, IfOk, IfErr, OnOk, None, length};
+ghost use Rattle.std.specs.Prelude.{◌≡◌, ◌+◌, ◌≤◌, max, All, IfOk, IfErr, OnOk, None, length};
 ghost use Rattle.pthash.specs.Order.{most_members};
 ghost use Rattle.pilot_search.specs.Outcome.{IsPlacedSoFar, IsPlaced, IsStuckAt};
 ghost use Rattle.turn_search.specs.Passes.{IsPassOf};
@@ -56,6 +56,7 @@ fn crew_of(
     requires no_claim { first.view.claim ≡ None }
     ensures ready { IfOk result (λ crew. All (IsReady table.now) crew.items) }
     ensures some { IfOk result (λ crew. 1 ≤ length crew.items) }
+    ensures len { IfOk result (λ crew. length crew.items ≡ max workers 1) }
 {
     let mut first = first;
     let mut crew = Vec::with_capacity(alloc, workers as usize)?;
@@ -79,6 +80,7 @@ fn join_crew(
     requires ready { All (IsReady table.now) crew.old.items }
     ensures ready { OnOk result (All (IsReady table.now) crew.new.items) }
     ensures some { OnOk result (1 ≤ length crew.new.items) }
+    ensures len { OnOk result (length crew.new.items ≡ length crew.old.items + 1) }
 {
     let scratch = Scratch::new(alloc, table.plan)?;
     match crew.push(Worker { pass, scratch }) {

@@ -1,4 +1,4 @@
-use Rattle.std.proofs.Common.{◌≡◌}
+use Rattle.std.proofs.Common.{◌≡◌, ◌+◌, ◌≤◌, max, length}
 use Rattle.std.specs.Prelude.{All, None}
 use Rattle.turn_search.specs.Passes.{IsPassOf}
 use Rattle.turn_search.specs.Workers.{IsReady}
@@ -9,4 +9,6 @@ invariant-loop l = record {
   first : IsPassOf l.table l.first;
   no_claim : l.first.view.claim ≡ None;
   ready : All (IsReady l.table) l.crew.items;
+  len : length l.crew.items + 1 ≡ l.counter;
+  within : l.counter ≤ max l.workers 1;
 }
