@@ -87,35 +87,42 @@ fn a_worker_tests_before_its_turn(rt: HostRuntime) -> Result<(), Fail> {
     Ok(())
 }
 
-// Counts the turns and the candidates of each rank.
+// Counts the turns and the candidates of each rank, and keeps the pilot that it was told of last.
 #[derive(Drop)]
 struct CountingGate {
     turns: AtomicU64,
     out_of_order: AtomicBool,
     candidates: Vec<AtomicU64>,
+    pilots: Vec<AtomicU64>,
 }
 
 impl CountingGate {
     fn new(alloc: Global, ranks: u64) -> Result<Self, Fail> {
         let mut candidates = Vec::new(alloc);
+        let mut pilots = Vec::new(alloc);
         for _ in 0..ranks {
             candidates.push(AtomicU64::new(0))?;
+            pilots.push(AtomicU64::new(u64::MAX))?;
         }
         Ok(Self {
             turns: AtomicU64::new(0),
             out_of_order: AtomicBool::new(false),
             candidates,
+            pilots,
         })
     }
 }
 
 impl Gate for CountingGate {
-    fn candidate(&self, rank: u64, _pilot: u64) {
+    fn candidate(&self, rank: u64, pilot: u64) {
         match self.candidates.get(rank as usize) {
             Some(count) => {
                 count.fetch_add(1, Ordering::SeqCst);
             }
             None => self.out_of_order.store(true, Ordering::SeqCst),
+        }
+        if let Some(told) = self.pilots.get(rank as usize) {
+            told.store(pilot, Ordering::SeqCst);
         }
     }
 
@@ -177,6 +184,15 @@ fn assert_counted(rt: &impl Abort, gate: &CountingGate, ranks: u64) {
     }
 }
 
+// A candidate is no greater than its rank's pilot, and that pilot itself where nobody else searches.
+fn assert_told(rt: &impl Abort, gate: &CountingGate, placed: &Placed, workers: u32) {
+    for (told, pilot) in gate.pilots.iter().zip(placed.pilots.as_slice()) {
+        let told = told.load(Ordering::SeqCst);
+        assert!(rt; told <= *pilot);
+        assert!(rt; workers > 1 || told == *pilot);
+    }
+}
+
 #[test]
 fn each_rank_has_its_candidate_and_its_turn(rt: HostRuntime) -> Result<(), Fail> {
     let (plan, expected) = first_plan_placed(&rt, rt.alloc())?;
@@ -189,6 +205,7 @@ fn each_rank_has_its_candidate_and_its_turn(rt: HostRuntime) -> Result<(), Fail>
             Err(_) => panic!(rt; "{workers} workers are stuck"),
         }
         assert_counted(&rt, &gate, plan.ranks());
+        assert_told(&rt, &gate, &expected, workers);
     }
     Ok(())
 }
