@@ -1,5 +1,5 @@
 // The values of the queries of a file.
-ghost use Rattle.std.specs.Prelude.{◌≡◌, ◌++◌, ℕ, Some, None, List, OnOk, IfOk, IsErrOf, string_bytes, take, codes};
+ghost use Rattle.std.specs.Prelude.{◌≡◌, ◌++◌, ℕ, Some, None, List, OnOk, IfOk, IsErrOf, string_bytes, take};
 ghost use Rattle.pthash.specs.declared.TheConstants.{MAX_KEYS};
 ghost use Rattle.pth_outside.specs.Files.{ReadsFiles, OfFile, contents};
 ghost use Rattle.pth_outside.specs.Keys.{keys_of, first_too_long, AreTooMany};
@@ -14,8 +14,8 @@ use index_file::Index;
 use pth_outside::{Files, KeysErr, Line, LineErr, LineReader, NoMemory};
 use std::alloc::Global;
 
-/// The values of the lines of a file in an index, or the refusal that the file deserves. It keeps no line but the one that it
-/// is at, and the text is let go of before a refusal is told.
+/// The values of the lines of a file in an index, or the refusal that the file deserves. It keeps no line but the one that
+/// it is at, and the values are let go of before a refusal has its text.
 pub fn values_of_file<F: Files>(
     alloc: Global,
     index: &Index,

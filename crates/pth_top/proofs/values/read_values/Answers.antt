@@ -47,7 +47,8 @@ returns-then-full-2-clause-too_many g c is =
     let kept = c.loop-text.invariant in
     many_by_long c.args.name.now (g.F.Files.state c.args.files.now).told (g.F.Files.state c.loop-text.files).told
     c.loop-text.reader c.next_line.new.self kept.1.queries MAX_KEYS c.in-Err-TooLong.line
-    kept.1.read kept.0.told (sym kept.1.counted ∙ c.if-full-2.true) (c.in-Err-TooLong.ensures.too_long c.in-Err-TooLong.line (ap Err c.in-Err-TooLong.field-0-is))
+    kept.1.read kept.0.told (sym kept.1.counted ∙ c.if-full-2.true)
+    (c.in-Err-TooLong.ensures.too_long c.in-Err-TooLong.line (ap Err c.in-Err-TooLong.field-0-is))
 
 pub returns-in-Err-TooLong-clause-too_long : goal.returns-in-Err-TooLong-clause-too_long
 returns-in-Err-TooLong-clause-too_long g c line is =
