@@ -1,5 +1,5 @@
 // The list of keys that a command reads and the index of it, or the refusal that they deserve.
-ghost use Rattle.std.specs.Prelude.{◌≡◌, ◌≢◌, ◌≤◌, [], length, Err, IfOk, IfErr, IsErrOf, None};
+ghost use Rattle.std.specs.Prelude.{◌≡◌, ◌≢◌, ◌≤◌, [], codes, length, Err, IfOk, IfErr, IsErrOf, None};
 ghost use Rattle.build_outcome.specs.Outcome.{repeated, exhausted};
 ghost use Rattle.command_words.specs.Options.{options_data};
 ghost use Rattle.pth_outside.specs.Files.{ReadsFiles, OfFile, contents};
@@ -19,17 +19,16 @@ use std::sync::Wait;
 use std::thread::Threads;
 use turn_search::Gate;
 
-/// The list that a file has, of at most so many of these, or the refusal that the file deserves.
-pub fn read_list<F: Files>(
+// The list of keys that a file has, of at most so many, or the refusal that the file deserves.
+fn read_list<F: Files>(
     alloc: Global,
     files: &mut F,
     name: &str,
-    what: &str,
     most: u64,
 ) -> Result<Result<KeyList, Answer>, Stop>
     requires { most ≤ 67108864 }
     ensures done { IfOk result (λ end. OfFile (F.state files.old).told name.now (λ bytes.
-        list_in what.now most bytes ≡ or_refused end)) }
+        list_in (codes "keys") most bytes ≡ or_refused end)) }
     ensures keys { IfOk result (λ end. IfOk end (λ keys.
         OfFile (F.state files.old).told name.now (λ bytes. keys ≡ keys_of bytes))) }
     ensures few { IfOk result (λ end. IfOk end (λ keys. length keys ≤ most)) }
@@ -40,7 +39,7 @@ pub fn read_list<F: Files>(
     match read_keys(alloc, files, name, most) {
         Ok(keys) => Ok(Ok(keys)),
         Err(KeysErr::TooLong { line }) => Ok(Err(too_long_answer(alloc, line)?)),
-        Err(KeysErr::TooMany) => Ok(Err(too_many_answer(alloc, what, most)?)),
+        Err(KeysErr::TooMany) => Ok(Err(too_many_answer(alloc, "keys", most)?)),
         Err(KeysErr::Fault) => Err(Stop::Fault),
         Err(KeysErr::NoMemory) => Err(Stop::NoMemory),
     }
@@ -64,7 +63,7 @@ pub fn build_list<R: Threads + Wait + Sync, F: Files, G: Gate>(
     ensures leaves { ReadsFiles (F.state files.old) (F.state files.new)
         (IsErrOf result Stop.Fault) (contents (F.state files.old).told name.now ≡ None) }
 {
-    match read_list(alloc, files, name, "keys", options.most)? {
+    match read_list(alloc, files, name, options.most)? {
         Ok(keys) => Ok(build_all(rt, alloc, &keys, options, gate)?),
         Err(refusal) => Ok(Err(refusal)),
     }
@@ -114,7 +113,7 @@ pub(crate) fn too_long_answer(alloc: Global, number: u64) -> Result<Answer, Allo
 }
 
 // The refusal of a file with more lines than the limit.
-fn too_many_answer(alloc: Global, what: &str, most: u64) -> Result<Answer, AllocError>
+pub(crate) fn too_many_answer(alloc: Global, what: &str, most: u64) -> Result<Answer, AllocError>
     ensures { IfOk result (λ answer. done_of answer ≡ too_many_result what.now most) }
 {
     let text = too_many_text(alloc, what, most)?;

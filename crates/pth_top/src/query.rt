@@ -1,19 +1,15 @@
 // The command `query`.
 ghost use Rattle.std.specs.Prelude.{◌≡◌, Ok, Some, None, IfOk, IfSome, IsErrOf};
 ghost use Rattle.command_words.specs.Words.{QueryOf};
-ghost use Rattle.pth_outside.specs.Files.{ReadsFiles, OfFile, contents};
+ghost use Rattle.pth_outside.specs.Files.{ReadsFiles};
 ghost use Rattle.pth_top.specs.Done.{done_of};
 ghost use Rattle.pth_top.specs.Ending.{Ends};
-ghost use Rattle.pth_top.specs.Query.{query_result};
 ghost use Rattle.pth_top.specs.Words.{command_result};
 
 use crate::answer::{Answer, Stop};
 use crate::finish::finish;
-use crate::lists::read_list;
 use crate::read::open_index;
-use crate::values::values_answer;
-use hem_build::MAX_KEYS;
-use index_file::Index;
+use crate::values::values_of_file;
 use pth_outside::{Files, Sink};
 use std::alloc::Global;
 
@@ -44,25 +40,7 @@ fn query<F: Files>(alloc: Global, index: &str, queries: &str, files: &mut F) -> 
         command_result (Ok (QueryOf index.now queries.now)) m ≡ None)) }
 {
     match open_index(alloc, files, index)? {
-        Ok(index) => query_lines(alloc, &index, queries, files),
-        Err(refusal) => Ok(refusal),
-    }
-}
-
-// The values of the lines of a file in an index, or the refusal that the file deserves.
-fn query_lines<F: Files>(
-    alloc: Global,
-    index: &Index,
-    queries: &str,
-    files: &mut F,
-) -> Result<Answer, Stop>
-    ensures done { IfOk result (λ answer. OfFile (F.state files.old).told queries.now (λ bytes.
-        query_result index.now bytes ≡ done_of answer)) }
-    ensures leaves { ReadsFiles (F.state files.old) (F.state files.new)
-        (IsErrOf result Stop.Fault) (contents (F.state files.old).told queries.now ≡ None) }
-{
-    match read_list(alloc, files, queries, "queries", MAX_KEYS)? {
-        Ok(lines) => Ok(values_answer(alloc, index, &lines)?),
+        Ok(index) => values_of_file(alloc, &index, files, queries),
         Err(refusal) => Ok(refusal),
     }
 }
