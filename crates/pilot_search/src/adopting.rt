@@ -10,7 +10,6 @@ use crate::occupancy::Occupancy;
 use crate::placing::Placed;
 use crate::plan::Plan;
 use crate::scratch::Scratch;
-use divisor::Divisor;
 
 /// Computes the positions of a bucket under a pilot, and tells whether they are distinct.
 pub fn spread(plan: &Plan, rank: u64, pilot: u64, scratch: &mut Scratch) -> bool
@@ -21,9 +20,8 @@ pub fn spread(plan: &Plan, rank: u64, pilot: u64, scratch: &mut Scratch) -> bool
     ensures distinct { result ≡ is_distinct scratch.new.positions }
     ensures room { scratch.new.members ≡ scratch.old.members }
 {
-    let size = Divisor::new(plan.size());
     let members = plan.members(rank);
-    scratch.spread(members, pilot, plan.seed(), &size)
+    scratch.spread(members, pilot, plan.seed(), plan.size())
 }
 
 /// Takes up the pilots of the first buckets on a new state.
@@ -61,17 +59,8 @@ fn adopt_pilots(
     ensures adopted { IsSearchedTo plan.now (length known.now) pilots.new occupied.new }
     ensures room { scratch.new.members ≡ scratch.old.members }
 {
-    let size = Divisor::new(plan.size());
     for rank in 0..known.len() {
-        adopt_pilot(
-            plan,
-            rank as u64,
-            known[rank],
-            &size,
-            pilots,
-            occupied,
-            scratch,
-        );
+        adopt_pilot(plan, rank as u64, known[rank], pilots, occupied, scratch);
     }
 }
 
@@ -80,7 +69,6 @@ fn adopt_pilot(
     plan: &Plan,
     rank: u64,
     pilot: u64,
-    size: &Divisor,
     pilots: &mut [u64],
     occupied: &mut Occupancy,
     scratch: &mut Scratch,
@@ -88,7 +76,6 @@ fn adopt_pilot(
     requires rank { rank < length plan.now.buckets }
     requires room { most_members plan.now.buckets ≤ scratch.old.members }
     requires so_far { IsSearchedTo plan.now rank pilots.old occupied.old }
-    requires divisor { size.now ≡ plan.now.size }
     requires pilot { let members = (bucket_at plan.now.buckets rank).members in
         let taken = contains occupied.old.taken in
         pilot_of plan.now.seed plan.now.size plan.now.limit taken members ≡ Some pilot }
@@ -96,7 +83,7 @@ fn adopt_pilot(
     ensures room { scratch.new.members ≡ scratch.old.members }
 {
     let members = plan.members(rank);
-    scratch.spread(members, pilot, plan.seed(), size);
+    scratch.spread(members, pilot, plan.seed(), plan.size());
     pilots[rank as usize] = pilot;
     occupied.take_all(scratch.positions());
 }

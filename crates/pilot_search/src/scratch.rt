@@ -34,6 +34,8 @@ pub struct Scratch {
     // the hashes of the first pilots
     hashes: Vec<u64>,
     seed: u64,
+    // the size of the table that was spread over last
+    size: Divisor,
 }
 
 impl Model for Scratch {
@@ -149,14 +151,17 @@ impl Scratch {
     }
 
     // The positions of members under a pilot, and whether they are distinct.
-    pub(crate) fn spread(&mut self, members: &[u64], pilot: u64, seed: u64, size: &Divisor) -> bool
+    pub(crate) fn spread(&mut self, members: &[u64], pilot: u64, seed: u64, size: u64) -> bool
+        requires some { 1 ≤ size }
         requires room { length members.now ≤ self.old.members }
-        ensures positions { self.new.positions ≡ positions_of seed size.now members.now pilot }
-        ensures distinct { result ≡ is_distinct (positions_of seed size.now members.now pilot) }
+        ensures positions { self.new.positions ≡ positions_of seed size members.now pilot }
+        ensures distinct { result ≡ is_distinct (positions_of seed size members.now pilot) }
         ensures room { self.new.members ≡ self.old.members }
     {
+        let hash = self.pilot_hash(pilot, seed);
+        keep_size(&mut self.size, size);
         self.used = members.len() as u64;
-        write_positions(members, pilot_hash(pilot, seed), size, &mut self.positions);
+        write_positions(members, hash, &self.size, &mut self.positions);
         are_distinct(&self.positions[..members.len()], &mut self.marks)
     }
 }
@@ -176,6 +181,7 @@ fn room_for(alloc: Global, members: u64, count: u64, seed: u64) -> Result<Scratc
         marks,
         hashes,
         seed,
+        size: Divisor::new(1),
     })
 }
 
@@ -205,6 +211,17 @@ fn keep_hashes(hashes: &mut [u64], kept: u64, seed: u64)
 {
     if kept != seed {
         fill_hashes(hashes, seed);
+    }
+}
+
+// Makes a kept divisor that of a size: with a division only where the size is another.
+#[inline]
+fn keep_size(kept: &mut Divisor, size: u64)
+    requires { 1 ≤ size }
+    ensures { kept.new ≡ size }
+{
+    if kept.value() != size {
+        *kept = Divisor::new(size);
     }
 }
 

@@ -7,7 +7,7 @@ use Rattle.atomic_table.specs.Seated.{TableId}
 use Rattle.atomic_table.specs.Table.{Me}
 use Rattle.turn_search.specs.declared.board.Look.{Look}
 use Rattle.turn_search.specs.declared.board.View.{View}
-use Rattle.turn_search.specs.Words.{ranks_of, turn_of, HasStop, word_count}
+use Rattle.turn_search.specs.Words.{ranks_of, turn_of, HasStop, bits_from, word_count}
 use Rattle.turn_search.specs.Looks.{RejectsBelow}
 use Rattle.turn_search.specs.Rule.{pilot_at}
 use Rattle.turn_search.specs.Steps.{after_look}
@@ -75,14 +75,16 @@ pub record HasSeenStop (view : View) (rank : ℕ) : Type 0 where
   pub stop : HasStop view.last
   pub turn : turn_of view.last ≡ rank
 
--- what a table keeps: the plan is the key of its words, and there is room for all pilots
-pub record IsLaid (plan key : SearchPlan) (words slots : ℕ) (pilots : List ℕ) : Type 0 where
+-- what a table keeps: the plan is the key of its words, there is room for all pilots, and where the bits begin
+pub record IsLaid (plan key : SearchPlan) (words slots : ℕ) (pilots : List ℕ) (bits size : ℕ) : Type 0 where
   pub searchable : IsSearchable plan
   pub ranks : ranks_of plan ≤ 2 ^ 28
   pub same_key : key ≡ plan
   pub words_are : words ≡ word_count plan
   pub no_slots : slots ≡ 0
   pub room : length pilots ≡ ranks_of plan
+  pub bits_are : bits ≡ bits_from plan
+  pub same_size : size ≡ plan.size
 
 -- what a pass keeps: its place is that of its view, it has claimed the rank before its place, and its looks are true where it holds the turn
 pub record IsSeated (me : Me (Unit {0}) View) (place : ℕ) : Type 0 where

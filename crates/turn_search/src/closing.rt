@@ -28,6 +28,7 @@ impl<'a> TurnTable<'a> {
             plan,
             board,
             mut pilots,
+            ..
         } = self;
         let Pass { seat, place: _ } = pass;
         let closed = board.close_with(seat);

@@ -9,7 +9,7 @@ ghost use Rattle.turn_search.specs.Rule.{keys_at};
 ghost use Rattle.turn_search.specs.Steps.{after_bit, after_store, after_pass, after_stop};
 ghost use Rattle.turn_search.specs.Passes.{IsPassOf, IsPassAt, HasSeenStop, with_bits};
 
-use crate::layout::{STOP, bits_from, pilots_from};
+use crate::layout::{STOP, pilots_from};
 use crate::plays::{BitStep, PassStep, StopStep, StoreStep};
 use crate::table::{Pass, TurnTable};
 use crate::trying::Candidate;
@@ -77,7 +77,7 @@ impl<'a> TurnTable<'a> {
         ensures pass { IsPassAt self.now pass.new }
         ensures view { pass.new.view ≡ after_bit pass.old.view }
     {
-        let word = bits_from(self.plan) + position / 64;
+        let word = self.bits + position / 64;
         let mask = 1 << (position % 64);
         self.board
             .shared

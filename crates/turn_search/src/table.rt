@@ -6,10 +6,11 @@ ghost use Rattle.turn_search.specs.Steps.{new_view};
 ghost use Rattle.turn_search.specs.Passes.{IsPassOf};
 
 use crate::board::{Board, Place};
-use crate::layout::word_count;
+use crate::layout::{bits_from, word_count};
 use crate::plays::SplitStep;
 use atomic_table::Table;
 use bucket_map::NoMemory;
+use divisor::Divisor;
 use pilot_search::Plan;
 use std::alloc::{AllocError, Global};
 use std::marker::Model;
@@ -21,6 +22,9 @@ pub struct TurnTable<'a> {
     pub(crate) board: Board,
     // room for the pilots that `close` answers
     pub(crate) pilots: Vec<u64>,
+    // the first word of the positions' bits
+    pub(crate) bits: u64,
+    pub(crate) size: Divisor,
 }
 
 impl<'a> Model for TurnTable<'a> {
@@ -31,7 +35,8 @@ impl<'a> Model for TurnTable<'a> {
     ghost view = { λ a. record { plan = a.plan.now; table = a.board.shared.table_id } };
 
     ghost invariant = { λ a. let shared = a.board.shared in
-        IsLaid a.plan.now shared.key shared.table_id.words shared.table_id.slots a.pilots.items };
+        IsLaid a.plan.now shared.key shared.table_id.words shared.table_id.slots a.pilots.items
+        a.bits a.size };
 }
 
 /// What one worker carries through a search: its claim, and what it has found.
@@ -76,6 +81,8 @@ impl<'a> TurnTable<'a> {
             plan,
             board,
             pilots,
+            bits: bits_from(plan),
+            size: Divisor::new(plan.size()),
         };
         let place = 0;
         Ok((table, Pass { seat, place }))

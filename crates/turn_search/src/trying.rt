@@ -13,7 +13,6 @@ ghost use Rattle.turn_search.specs.Passes.{CandidateData, IsPassOf, LooksAt, Onl
 ghost use Rattle.turn_search.specs.declared.trying.Spec.TheVariants.{Found, AllRejected};
 
 use crate::claiming::is_bit_set;
-use crate::layout::bits_from;
 use crate::plays::LookStep;
 use crate::table::{Pass, TurnTable};
 use divisor::Divisor;
@@ -166,9 +165,8 @@ impl<'a> TurnTable<'a> {
             (RejectsBelow pass.new.view rank self.now.plan.limit) }
     {
         let members = self.plan.members(rank);
-        let size = Divisor::new(self.plan.size());
         for pilot in first..self.plan.limit() {
-            if self.try_pilot(pass, rank, members, pilot, &size, scratch) {
+            if self.try_pilot(pass, rank, members, pilot, &self.size, scratch) {
                 return Some(pilot);
             }
         }
@@ -237,7 +235,7 @@ impl<'a> TurnTable<'a> {
         ensures pass { IsPassOf self.now pass.new }
         ensures look { LooksAt pass.old.view pass.new.view position result }
     {
-        let word = bits_from(self.plan) + position / 64;
+        let word = self.bits + position / 64;
         let found = self
             .board
             .shared

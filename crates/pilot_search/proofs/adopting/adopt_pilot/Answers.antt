@@ -11,13 +11,13 @@ pub take_all-requires : goal.take_all-requires
 take_all-requires c =
     let table = c.args.occupied.now in
     let seed : ℕ = c.seed.result in
-    let size : ℕ = c.args.size.now in
+    let size : ℕ = c.size.result in
     let members : List ℕ = c.members-members.result.now in
     let pilot : ℕ = c.args.pilot in
-    let same_size = c.requires.divisor ∙ sym c.requires.so_far.size in
+    let same_size = c.size.ensures.value ∙ sym c.requires.so_far.size in
     ap (list_all (λ p. nat_lt p table.size)) (c.positions.ensures ∙ c.spread.ensures.positions)
     ∙ ap (λ s. list_all (λ p. nat_lt p s) (positions_of seed size members pilot)) (sym same_size)
-    ∙ positions_below seed size members pilot (omega (arith, c.requires.divisor, c.members-members.ensures.searchable.has_position))
+    ∙ positions_below seed size members pilot (omega (arith, c.size.ensures.value, c.members-members.ensures.searchable.has_position))
 
 pub returns-clause-placed : goal.returns-clause-placed
 returns-clause-placed c =
@@ -25,12 +25,12 @@ returns-clause-placed c =
     let table = c.args.occupied.now in
     let rank : ℕ = c.args.rank in
     let seed : ℕ = c.seed.result in
-    let size : ℕ = c.args.size.now in
+    let size : ℕ = c.size.result in
     let members : List ℕ = c.members-members.result.now in
     let pilot : ℕ = c.args.pilot in
     let task : IsTask plan rank seed size plan.limit members = record {
       same_seed = c.seed.ensures.value;
-      same_size = c.requires.divisor;
+      same_size = c.size.ensures.value;
       same_limit = refl;
       same_members = c.members-members.ensures.value;
     } in
