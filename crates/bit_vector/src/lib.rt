@@ -15,7 +15,7 @@ const BLOCK: usize = 16;
 // Each so many ones the place of one is noted.
 const STEP: u64 = 128;
 // How many words are looked at from a noted place on, before the counts are asked.
-const NEAR: usize = 8;
+const NEAR: usize = 16;
 
 #[cfg(test)]
 mod tests;

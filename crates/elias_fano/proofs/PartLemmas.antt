@@ -13,12 +13,24 @@ use Rattle.elias_fano.proofs.ValueLemmas.{get_or-joined, slice_get-some, place-l
 -- a place, the low bits beside it, and what they are
 pub record IsPart (count last w : ℕ) (low high : List Bool) (i place : ℕ) : Type 0 where
   pub before : i ≤ place
-  pub few : i ≤ 2 ^ 36
-  pub wide : w < 64
-  pub within : i * w + w ≤ length low
   pub value : (place - i) * 2 ^ w + number_of (take w (drop (i * w) low)) ≡ get_or (values_of w low high) i 0
   pub here : place < length high
   pub step : ones (take (place + 1) high) ≡ i + 1
+
+-- the low bits of a value are within
+pub record HasLow (w : ℕ) (low : List Bool) (i : ℕ) : Type 0 where
+  pub few : i ≤ 2 ^ 36
+  pub wide : w < 64
+  pub within : i * w + w ≤ length low
+
+-- each value has low bits
+pub has_low : (count last w : ℕ) (low high : List Bool) (i : ℕ) → AreParts count last w low high → i < count → HasLow w low i
+has_low count last w low high i p lt =
+    record {
+      few = omega (arith, p.few);
+      wide = omega (arith, p.wide, low_width-le count last);
+      within = omega (arith, p.low_len, mul-le (i + 1) w count w (omega arith) (omega arith));
+    }
 
 -- each value has a one
 pub has_place : (count last w : ℕ) (low high : List Bool) (i : ℕ) → AreParts count last w low high → i < count → IsSome (slice_get (places high) i)
@@ -33,9 +45,6 @@ part_is count last w low high i place p lt e =
     let step = places-step high i place e in
     record {
       before = omega (arith, place-le 0 high i place e);
-      few = omega (arith, p.few);
-      wide = omega (arith, p.wide, low_width-le count last);
-      within = omega (arith, p.low_len, mul-le (i + 1) w count w (omega arith) (omega arith));
       value = ap (λ (x : ℕ). (place - x) * 2 ^ w + number_of (take w (drop (i * w) low))) start ∙ sym (get_or-joined w 0 (places high) low i place e);
       here = step.0;
       step = step.1;

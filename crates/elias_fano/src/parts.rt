@@ -19,16 +19,15 @@ pub fn width_of(count: u64, last: u64) -> u32
     (last / count).ilog2()
 }
 
-// What stands above the low bits of the value whose one has that place, and its low bits.
-fn part_of(low: &BitVec, width: u32, i: u64, place: u64) -> (u64, u64)
+// The low bits of a value. They are asked for before the place of its one is, so that the two waits for
+// memory are one.
+fn low_of(low: &BitVec, width: u32, i: u64) -> u64
     requires wide { width < 64 }
     requires few { i ≤ 2 ^ 36 }
     requires within { i * width + width ≤ length low.now }
-    requires before { i ≤ place }
-    ensures high { result.0 ≡ place - i }
-    ensures low { result.1 ≡ number_of (take width (drop (i * width) low.now)) }
+    ensures { result ≡ number_of (take width (drop (i * width) low.now)) }
 {
-    (place - i, low.get_bits(i * u64::from(width), width))
+    low.get_bits(i * u64::from(width), width)
 }
 
 /// What stands above the low bits of a value, and its low bits.
@@ -46,8 +45,9 @@ pub fn part_at(
         ≡ slice_index (values_of width low.now high.now) i }
     ensures low { result.1 < 2 ^ width }
 {
+    let low_here = low_of(low, width, i);
     let place = high.select1(i).unwrap();
-    part_of(low, width, i, place)
+    (place - i, low_here)
 }
 
 /// The parts of a value and of the next one, by one select.
@@ -68,12 +68,11 @@ pub fn two_parts(
         ≡ slice_index (values_of width low.now high.now) (i + 1) }
     ensures next_low { result.1.1 < 2 ^ width }
 {
+    let low_here = low_of(low, width, i);
+    let low_next = low_of(low, width, i + 1);
     let place = high.select1(i).unwrap();
     let next = high.next1(place + 1).unwrap();
-    (
-        part_of(low, width, i, place),
-        part_of(low, width, i + 1, next),
-    )
+    ((place - i, low_here), (next - (i + 1), low_next))
 }
 
 // Whether a value is below another: by what is above the low bits, and then by these.
@@ -94,8 +93,9 @@ pub fn do_rise(low: &BitVec, high: &Selector, width: u32, count: u64, last: u64)
     // The place behind the one before.
     let mut from = 0;
     for i in 0..count {
+        let low_here = low_of(low, width, i);
         let place = high.next1(from).unwrap();
-        let (here, low_here) = part_of(low, width, i, place);
+        let here = place - i;
         if is_below(here, low_here, before, low_before) {
             return false;
         }

@@ -1,10 +1,10 @@
-use Rattle.std.proofs.Common.{◌≡◌, ℕ, ◌+◌, ◌*◌, ◌^◌, ◌<◌, Bool, List, take, drop, Some, sym, ap, subst, ◌∙◌, arith}
+use Rattle.std.proofs.Common.{◌≡◌, ℕ, ◌+◌, ◌-◌, ◌*◌, ◌^◌, ◌<◌, Bool, List, take, drop, Some, sym, ap, subst, ◌∙◌, arith}
 use Rattle.std.specs.Prelude.{IsSome}
 use Rattle.std.specs.List.{slice_get}
 use Rattle.bit_vector.specs.Bits.{ones, places}
 use Rattle.elias_fano.specs.Values.{AreParts}
 use Rattle.elias_fano.proofs.ValueLemmas.{low-lt}
-use Rattle.elias_fano.proofs.PartLemmas.{IsPart, has_place, part_is, value_is, high-most}
+use Rattle.elias_fano.proofs.PartLemmas.{IsPart, has_low, has_place, part_is, high-most}
 use Rattle.elias_fano.proofs.parts.two_parts.Goals as goal
 
 -- the part of the next value
@@ -41,32 +41,38 @@ unwrap-next-requires c =
     let there = has_place c.args.count c.args.last c.args.width c.args.low.now c.args.high.now (c.args.i + 1) c.requires.parts c.requires.within in
     rw c.next1.ensures (subst (λ (k : ℕ). IsSome (slice_get (places c.args.high.now) k)) (sym p.step) there)
 
-pub part_of-requires-clause-wide : goal.part_of-requires-clause-wide
-part_of-requires-clause-wide c = (part_is c.args.count c.args.last c.args.width c.args.low.now c.args.high.now c.args.i c.unwrap-place.result c.requires.parts
-    (omega (arith, c.requires.within)) (sym c.select1.ensures ∙ c.unwrap-place.ensures)).wide
+pub low_of-low_here-requires-clause-wide : goal.low_of-low_here-requires-clause-wide
+low_of-low_here-requires-clause-wide c =
+    (has_low c.args.count c.args.last c.args.width c.args.low.now c.args.high.now c.args.i c.requires.parts (omega (arith, c.requires.within))).wide
 
-pub part_of-requires-clause-within : goal.part_of-requires-clause-within
-part_of-requires-clause-within c = (part_is c.args.count c.args.last c.args.width c.args.low.now c.args.high.now c.args.i c.unwrap-place.result c.requires.parts
-    (omega (arith, c.requires.within)) (sym c.select1.ensures ∙ c.unwrap-place.ensures)).within
+pub low_of-low_here-requires-clause-few : goal.low_of-low_here-requires-clause-few
+low_of-low_here-requires-clause-few c =
+    (has_low c.args.count c.args.last c.args.width c.args.low.now c.args.high.now c.args.i c.requires.parts (omega (arith, c.requires.within))).few
 
-pub part_of-requires-clause-before : goal.part_of-requires-clause-before
-part_of-requires-clause-before c = (part_is c.args.count c.args.last c.args.width c.args.low.now c.args.high.now c.args.i c.unwrap-place.result c.requires.parts
-    (omega (arith, c.requires.within)) (sym c.select1.ensures ∙ c.unwrap-place.ensures)).before
+pub low_of-low_here-requires-clause-within : goal.low_of-low_here-requires-clause-within
+low_of-low_here-requires-clause-within c =
+    (has_low c.args.count c.args.last c.args.width c.args.low.now c.args.high.now c.args.i c.requires.parts (omega (arith, c.requires.within))).within
 
-pub part_of-requires-2-clause-wide : goal.part_of-requires-2-clause-wide
-part_of-requires-2-clause-wide c = (part_is c.args.count c.args.last c.args.width c.args.low.now c.args.high.now c.args.i c.unwrap-place.result c.requires.parts
-    (omega (arith, c.requires.within)) (sym c.select1.ensures ∙ c.unwrap-place.ensures)).wide
+pub low_of-low_next-requires-clause-wide : goal.low_of-low_next-requires-clause-wide
+low_of-low_next-requires-clause-wide c =
+    (has_low c.args.count c.args.last c.args.width c.args.low.now c.args.high.now (c.args.i + 1) c.requires.parts c.requires.within).wide
 
-pub part_of-requires-2-clause-within : goal.part_of-requires-2-clause-within
-part_of-requires-2-clause-within c =
+pub low_of-low_next-requires-clause-few : goal.low_of-low_next-requires-clause-few
+low_of-low_next-requires-clause-few c =
+    (has_low c.args.count c.args.last c.args.width c.args.low.now c.args.high.now (c.args.i + 1) c.requires.parts c.requires.within).few
+
+pub low_of-low_next-requires-clause-within : goal.low_of-low_next-requires-clause-within
+low_of-low_next-requires-clause-within c =
+    (has_low c.args.count c.args.last c.args.width c.args.low.now c.args.high.now (c.args.i + 1) c.requires.parts c.requires.within).within
+
+pub overflow_sub-result : goal.overflow_sub-result
+overflow_sub-result c =
     let p = part_is c.args.count c.args.last c.args.width c.args.low.now c.args.high.now c.args.i c.unwrap-place.result c.requires.parts
     (omega (arith, c.requires.within)) (sym c.select1.ensures ∙ c.unwrap-place.ensures) in
-    let q = next_is c.args.count c.args.last c.args.width c.args.low.now c.args.high.now c.args.i c.unwrap-place.result c.next1.result c.unwrap-next.result
-    c.requires.parts c.requires.within p c.next1.ensures c.unwrap-next.ensures in
-    q.within
+    p.before
 
-pub part_of-requires-2-clause-before : goal.part_of-requires-2-clause-before
-part_of-requires-2-clause-before c =
+pub overflow_sub-result-2 : goal.overflow_sub-result-2
+overflow_sub-result-2 c =
     let p = part_is c.args.count c.args.last c.args.width c.args.low.now c.args.high.now c.args.i c.unwrap-place.result c.requires.parts
     (omega (arith, c.requires.within)) (sym c.select1.ensures ∙ c.unwrap-place.ensures) in
     let q = next_is c.args.count c.args.last c.args.width c.args.low.now c.args.high.now c.args.i c.unwrap-place.result c.next1.result c.unwrap-next.result
@@ -77,13 +83,11 @@ pub returns-clause-value : goal.returns-clause-value
 returns-clause-value c =
     let p = part_is c.args.count c.args.last c.args.width c.args.low.now c.args.high.now c.args.i c.unwrap-place.result c.requires.parts
     (omega (arith, c.requires.within)) (sym c.select1.ensures ∙ c.unwrap-place.ensures) in
-    let v = value_is c.args.count c.args.last c.args.width c.args.low.now c.args.high.now c.args.i c.unwrap-place.result c.part_of.result p
-    c.part_of.ensures.high c.part_of.ensures.low in
-    v.0
+    ap (λ (x : ℕ). (c.unwrap-place.result - c.args.i) * 2 ^ c.args.width + x) c.low_of-low_here.ensures ∙ p.value
 
 pub returns-clause-low : goal.returns-clause-low
 returns-clause-low c =
-    subst (λ (x : ℕ). x < 2 ^ c.args.width) (sym c.part_of.ensures.low) (low-lt c.args.width (drop (c.args.i * c.args.width) c.args.low.now))
+    subst (λ (x : ℕ). x < 2 ^ c.args.width) (sym c.low_of-low_here.ensures) (low-lt c.args.width (drop (c.args.i * c.args.width) c.args.low.now))
 
 pub returns-clause-next : goal.returns-clause-next
 returns-clause-next c =
@@ -91,10 +95,8 @@ returns-clause-next c =
     (omega (arith, c.requires.within)) (sym c.select1.ensures ∙ c.unwrap-place.ensures) in
     let q = next_is c.args.count c.args.last c.args.width c.args.low.now c.args.high.now c.args.i c.unwrap-place.result c.next1.result c.unwrap-next.result
     c.requires.parts c.requires.within p c.next1.ensures c.unwrap-next.ensures in
-    let v = value_is c.args.count c.args.last c.args.width c.args.low.now c.args.high.now (c.args.i + 1) c.unwrap-next.result c.part_of-2.result q
-    c.part_of-2.ensures.high c.part_of-2.ensures.low in
-    v.0
+    ap (λ (x : ℕ). (c.unwrap-next.result - (c.args.i + 1)) * 2 ^ c.args.width + x) c.low_of-low_next.ensures ∙ q.value
 
 pub returns-clause-next_low : goal.returns-clause-next_low
 returns-clause-next_low c =
-    subst (λ (x : ℕ). x < 2 ^ c.args.width) (sym c.part_of-2.ensures.low) (low-lt c.args.width (drop ((c.args.i + 1) * c.args.width) c.args.low.now))
+    subst (λ (x : ℕ). x < 2 ^ c.args.width) (sym c.low_of-low_next.ensures) (low-lt c.args.width (drop ((c.args.i + 1) * c.args.width) c.args.low.now))
