@@ -1,6 +1,6 @@
 use Rattle.std.proofs.Common.{◌≡◌, ◌+◌, ◌/◌, ◌^◌, ◌<◌, ◌≤◌, ◌∙◌}
-use Rattle.std.proofs.Common.{ℕ, Bool, true, false, length, sym, ap, subst, arith, ⊎_elim}
-use Rattle.std.specs.Int.{bit_at, w64}
+use Rattle.std.proofs.Common.{ℕ, Bool, false, length, sym, ap, subst, arith, ⊎_elim}
+use Rattle.std.specs.Int.{w64}
 use Rattle.std.specs.FinSet.{contains}
 use Rattle.std.proofs.lemmas.Bool.{cases_lt}
 use Rattle.std.proofs.lemmas.Nat.{shr_le}

@@ -1,6 +1,5 @@
 use Rattle.std.proofs.Common.{ℕ, List, sym, ◌∙◌, subst}
 use Rattle.std.specs.List.Sorted.{IsPermutation}
-use Rattle.pthash.specs.Search.{is_distinct}
 use Rattle.pilot_search.proofs.Sorting.{is_distinct-permutation}
 use Rattle.pilot_search.proofs.repeats.are_sorted_apart.Goals as goal
 
