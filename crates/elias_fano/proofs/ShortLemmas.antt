@@ -2,13 +2,13 @@
 use Rattle.std.proofs.Common.{◌≡◌, ℕ, ◌+◌, ◌*◌, ◌-◌, ◌^◌, ◌<◌, ◌≤◌, Bool, true, false, cond, eqb, ltb, List, length, drop}
 use Rattle.std.proofs.Common.{Result, Ok, Err}
 use Rattle.std.proofs.Common.{refl, sym, ap, ◌∙◌, inl, inr, arith}
-use Rattle.std.specs.Prelude.{not, ◌&&◌, ◌⊎◌}
+use Rattle.std.specs.Prelude.{not, ◌⊎◌}
 use Rattle.std.proofs.lemmas.Bool.{ltb-true}
 use Rattle.bit_vector.specs.Bits.{bits_of, words_number, words_for, ones}
 use Rattle.elias_fano.specs.declared.fault.FormFault.{FormFault}
 use Rattle.elias_fano.specs.declared.fault.ReadErr.{ReadErr}
 use Rattle.elias_fano.specs.declared.fault.ReadErr.TheVariants as errors
-use Rattle.elias_fano.specs.Spelling.{low_width, last_of, rises, high_len}
+use Rattle.elias_fano.specs.Spelling.{last_of, rises, high_len}
 use Rattle.elias_fano.specs.Values.{values_of}
 use Rattle.elias_fano.specs.Reading.{◌>>=◌, Fails, TellsShort, fault, words_in, run_at, checked, parts_at}
 

@@ -1,5 +1,4 @@
-use Rattle.std.proofs.Common.{◌≡◌, ℕ, List, true, length, ap, sym, subst, ◌∙◌, arith}
-use Rattle.elias_fano.specs.Spelling.{rises}
+use Rattle.std.proofs.Common.{◌≡◌, ℕ, List, length, ap, sym, ◌∙◌, arith}
 use Rattle.elias_fano.specs.Values.{values_of, below_len}
 use Rattle.elias_fano.proofs.ValueLemmas.{below_len-all, below_len-most}
 use Rattle.elias_fano.proofs.TextLemmas.{values-length}

@@ -1,4 +1,4 @@
-use Rattle.std.proofs.Common.{◌≡◌, ℕ, ◌+◌, ◌<◌, List, length, get_or, ap, ◌∙◌, arith}
+use Rattle.std.proofs.Common.{ℕ, ◌+◌, ◌<◌, List, length, get_or, ap, ◌∙◌, arith}
 use Rattle.elias_fano.specs.Values.{values_of}
 use Rattle.elias_fano.proofs.WidthLemmas.{low_width-le}
 use Rattle.elias_fano.proofs.ValueLemmas.{get_or-le-last, parts-word}
