@@ -3,7 +3,7 @@ ghost use Rattle.std.specs.Prelude.{◌≡◌, ◌+◌, ◌*◌, ◌^◌, ◌<�
 ghost use Rattle.std.specs.Prelude.{drop, replicate, slice_index_or, slice_set, OnOk, OnErr, IfOk, IfSome, IsSome};
 ghost use Rattle.bit_vector.specs.Bits.{bits_of, bits_of_each, number_of, words_number, packed, IsPacked};
 
-use crate::words::{append, append_fields, bits_at, clear_words, is_packed};
+use crate::words::{append, append_fields, bits_at, clear_words, is_packed, low_bits};
 use std::alloc::{AllocError, AllocFailed, Global};
 use std::marker::Model;
 
@@ -119,6 +119,17 @@ impl BitVec {
         ensures { result ≡ number_of (take width (drop at self.now)) }
     {
         bits_at(&self.words, at as usize, width)
+    }
+
+    /// Two fields of one width, side by side from a place on, by one read.
+    pub fn get_two(&self, at: u64, width: u32) -> (u64, u64)
+        requires wide { width ≤ 32 }
+        requires within { at + 2 * width ≤ length self.now }
+        ensures first { result.0 ≡ number_of (take width (drop at self.now)) }
+        ensures second { result.1 ≡ number_of (take width (drop (at + width) self.now)) }
+    {
+        let both = self.get_bits(at, 2 * width);
+        (low_bits(both, width), both >> width)
     }
 
     /// The bit at a place.

@@ -30,6 +30,20 @@ fn low_of(low: &BitVec, width: u32, i: u64) -> u64
     low.get_bits(i * u64::from(width), width)
 }
 
+// The low bits of a value and of the next one, by one read where they are few.
+fn lows_of(low: &BitVec, width: u32, i: u64) -> (u64, u64)
+    requires wide { width < 64 }
+    requires few { i < 2 ^ 36 }
+    requires within { (i + 1) * width + width ≤ length low.now }
+    ensures here { result.0 ≡ number_of (take width (drop (i * width) low.now)) }
+    ensures next { result.1 ≡ number_of (take width (drop ((i + 1) * width) low.now)) }
+{
+    if width > 32 {
+        return (low_of(low, width, i), low_of(low, width, i + 1));
+    }
+    low.get_two(i * u64::from(width), width)
+}
+
 /// What stands above the low bits of a value, and its low bits.
 pub fn part_at(
     low: &BitVec,
@@ -68,8 +82,7 @@ pub fn two_parts(
         ≡ slice_index (values_of width low.now high.now) (i + 1) }
     ensures next_low { result.1.1 < 2 ^ width }
 {
-    let low_here = low_of(low, width, i);
-    let low_next = low_of(low, width, i + 1);
+    let (low_here, low_next) = lows_of(low, width, i);
     let place = high.select1(i).unwrap();
     let next = high.next1(place + 1).unwrap();
     ((place - i, low_here), (next - (i + 1), low_next))

@@ -41,28 +41,16 @@ unwrap-next-requires c =
     let there = has_place c.args.count c.args.last c.args.width c.args.low.now c.args.high.now (c.args.i + 1) c.requires.parts c.requires.within in
     rw c.next1.ensures (subst (λ (k : ℕ). IsSome (slice_get (places c.args.high.now) k)) (sym p.step) there)
 
-pub low_of-low_here-requires-clause-wide : goal.low_of-low_here-requires-clause-wide
-low_of-low_here-requires-clause-wide c =
-    (has_low c.args.count c.args.last c.args.width c.args.low.now c.args.high.now c.args.i c.requires.parts (omega (arith, c.requires.within))).wide
-
-pub low_of-low_here-requires-clause-few : goal.low_of-low_here-requires-clause-few
-low_of-low_here-requires-clause-few c =
-    (has_low c.args.count c.args.last c.args.width c.args.low.now c.args.high.now c.args.i c.requires.parts (omega (arith, c.requires.within))).few
-
-pub low_of-low_here-requires-clause-within : goal.low_of-low_here-requires-clause-within
-low_of-low_here-requires-clause-within c =
-    (has_low c.args.count c.args.last c.args.width c.args.low.now c.args.high.now c.args.i c.requires.parts (omega (arith, c.requires.within))).within
-
-pub low_of-low_next-requires-clause-wide : goal.low_of-low_next-requires-clause-wide
-low_of-low_next-requires-clause-wide c =
+pub lows_of-low_here-requires-clause-wide : goal.lows_of-low_here-requires-clause-wide
+lows_of-low_here-requires-clause-wide c =
     (has_low c.args.count c.args.last c.args.width c.args.low.now c.args.high.now (c.args.i + 1) c.requires.parts c.requires.within).wide
 
-pub low_of-low_next-requires-clause-few : goal.low_of-low_next-requires-clause-few
-low_of-low_next-requires-clause-few c =
-    (has_low c.args.count c.args.last c.args.width c.args.low.now c.args.high.now (c.args.i + 1) c.requires.parts c.requires.within).few
+pub lows_of-low_here-requires-clause-few : goal.lows_of-low_here-requires-clause-few
+lows_of-low_here-requires-clause-few c =
+    omega (arith, (has_low c.args.count c.args.last c.args.width c.args.low.now c.args.high.now (c.args.i + 1) c.requires.parts c.requires.within).few)
 
-pub low_of-low_next-requires-clause-within : goal.low_of-low_next-requires-clause-within
-low_of-low_next-requires-clause-within c =
+pub lows_of-low_here-requires-clause-within : goal.lows_of-low_here-requires-clause-within
+lows_of-low_here-requires-clause-within c =
     (has_low c.args.count c.args.last c.args.width c.args.low.now c.args.high.now (c.args.i + 1) c.requires.parts c.requires.within).within
 
 pub overflow_sub-result : goal.overflow_sub-result
@@ -83,11 +71,11 @@ pub returns-clause-value : goal.returns-clause-value
 returns-clause-value c =
     let p = part_is c.args.count c.args.last c.args.width c.args.low.now c.args.high.now c.args.i c.unwrap-place.result c.requires.parts
     (omega (arith, c.requires.within)) (sym c.select1.ensures ∙ c.unwrap-place.ensures) in
-    ap (λ (x : ℕ). (c.unwrap-place.result - c.args.i) * 2 ^ c.args.width + x) c.low_of-low_here.ensures ∙ p.value
+    ap (λ (x : ℕ). (c.unwrap-place.result - c.args.i) * 2 ^ c.args.width + x) c.lows_of-low_here.ensures.here ∙ p.value
 
 pub returns-clause-low : goal.returns-clause-low
 returns-clause-low c =
-    subst (λ (x : ℕ). x < 2 ^ c.args.width) (sym c.low_of-low_here.ensures) (low-lt c.args.width (drop (c.args.i * c.args.width) c.args.low.now))
+    subst (λ (x : ℕ). x < 2 ^ c.args.width) (sym c.lows_of-low_here.ensures.here) (low-lt c.args.width (drop (c.args.i * c.args.width) c.args.low.now))
 
 pub returns-clause-next : goal.returns-clause-next
 returns-clause-next c =
@@ -95,8 +83,8 @@ returns-clause-next c =
     (omega (arith, c.requires.within)) (sym c.select1.ensures ∙ c.unwrap-place.ensures) in
     let q = next_is c.args.count c.args.last c.args.width c.args.low.now c.args.high.now c.args.i c.unwrap-place.result c.next1.result c.unwrap-next.result
     c.requires.parts c.requires.within p c.next1.ensures c.unwrap-next.ensures in
-    ap (λ (x : ℕ). (c.unwrap-next.result - (c.args.i + 1)) * 2 ^ c.args.width + x) c.low_of-low_next.ensures ∙ q.value
+    ap (λ (x : ℕ). (c.unwrap-next.result - (c.args.i + 1)) * 2 ^ c.args.width + x) c.lows_of-low_here.ensures.next ∙ q.value
 
 pub returns-clause-next_low : goal.returns-clause-next_low
 returns-clause-next_low c =
-    subst (λ (x : ℕ). x < 2 ^ c.args.width) (sym c.low_of-low_next.ensures) (low-lt c.args.width (drop ((c.args.i + 1) * c.args.width) c.args.low.now))
+    subst (λ (x : ℕ). x < 2 ^ c.args.width) (sym c.lows_of-low_here.ensures.next) (low-lt c.args.width (drop ((c.args.i + 1) * c.args.width) c.args.low.now))

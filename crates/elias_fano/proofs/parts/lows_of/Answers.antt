@@ -1,0 +1,6 @@
+use Rattle.std.proofs.Common.{◌≡◌, ℕ, ◌+◌, ◌*◌, take, drop, ap, ◌∙◌, arith}
+use Rattle.bit_vector.specs.Bits.{number_of}
+use Rattle.elias_fano.proofs.parts.lows_of.Goals as goal
+
+pub get_two-requires-clause-within : goal.get_two-requires-clause-within
+get_two-requires-clause-within c = omega (arith, ap (λ (x : ℕ). c.args.i * x) c.from.ensures, c.requires.within)
