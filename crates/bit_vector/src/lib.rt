@@ -14,10 +14,8 @@ pub use words::{append_fields, bits_at, is_packed};
 const BLOCK: usize = 16;
 // Each so many ones the place of one is noted.
 const STEP: u64 = 128;
-// How many words are looked at from a noted place on, before the counts are asked, and how many of these without a branch.
+// How many words are looked at from a noted place on, before the counts are asked.
 const NEAR: usize = 16;
-
-const WALK: usize = 7;
 
 #[cfg(test)]
 mod tests;

@@ -7,7 +7,7 @@ ghost use Rattle.bit_vector.specs.Samples.{all_ones, IsCounted, IsInWord, IsOneA
 
 use crate::bits::NoMemory;
 use crate::words::low_bits;
-use crate::{BLOCK, NEAR, STEP, WALK};
+use crate::{BLOCK, NEAR, STEP};
 use std::alloc::Global;
 
 /// The ones before each block of words, and at the end all of them.
@@ -87,27 +87,6 @@ fn block_before(counts: &[u64], i: u64) -> usize
     low
 }
 
-// How many of the next words end before a one, and the ones in them. No branch hangs on where the one is.
-fn words_before(words: &[u64], from: usize, i: u64) -> (usize, u64)
-    requires { from + WALK ≤ length words.now }
-    ensures within { result.0 ≤ WALK }
-    ensures ones { all_ones (take (from + result.0) words.now)
-        ≡ all_ones (take from words.now) + result.1 }
-    ensures before { result.1 ≤ i }
-{
-    let mut ones = 0;
-    let mut skip = 0;
-    let mut before = 0;
-    for at in 0..WALK {
-        ones += u64::from(words[from + at].count_ones());
-        if ones <= i {
-            skip = at + 1;
-            before = ones;
-        }
-    }
-    (skip, before)
-}
-
 // The word of a one that is counted from a word on, and its number in that word, if it is before an end.
 fn word_of_one(words: &[u64], from: usize, end: usize, i: u64) -> Option<(usize, u32)>
     requires from_in { from ≤ end }
@@ -126,20 +105,6 @@ fn word_of_one(words: &[u64], from: usize, end: usize, i: u64) -> Option<(usize,
         left -= u64::from(here);
     }
     None
-}
-
-// The same, if it is in one of the next words.
-fn word_near(words: &[u64], from: usize, i: u64) -> Option<(usize, u32)>
-    requires from_in { from < length words.now }
-    requires most { length words.now ≤ 2 ^ 36 }
-    ensures some { IfSome result (λ x. IsInWord words.now
-        (all_ones (take from words.now) + i) x.0 x.1) }
-{
-    if words.len() - from < NEAR {
-        return word_of_one(words, from, words.len(), i);
-    }
-    let (skip, ones) = words_before(words, from, i);
-    word_of_one(words, from + skip, from + NEAR, i - ones)
 }
 
 // A one by the counts: however long no one comes, it takes few steps.
@@ -207,7 +172,8 @@ pub fn place_of(words: &[u64], counts: &[u64], samples: &[u64], i: u64) -> Optio
     }
     let sample = samples[(i / STEP) as usize];
     let from = (sample / 64) as usize;
-    let (word, left) = match word_near(words, from, i % STEP + sample % 64) {
+    let end = (from + NEAR).min(words.len());
+    let (word, left) = match word_of_one(words, from, end, i % STEP + sample % 64) {
         Some(found) => found,
         None => word_by_counts(words, counts, i),
     };

@@ -17,11 +17,11 @@ returns c =
       counted.before last (omega (arith, counted.len)),
       sum_by-take-le count_ones words (16 * last),
     ) in
-    let found : IsInWord words c.args.i c.match-word_near.word.0 c.match-word_near.word.1 = elim c.match-word_near.branch [
+    let found : IsInWord words c.args.i c.match-word_of_one.word.0 c.match-word_of_one.word.1 = elim c.match-word_of_one.branch [
       | in-Some w ↦ rw w.word-is (from_sample words c.args.samples.now c.args.i _ _ c.requires.sampled few (w.in-Some.ensures.some))
       | in-None w ↦ rw w.word-is w.word_by_counts.ensures
     ] in
-    one_among words c.match-word_near.word.0 c.place_in.result c.match-word_near.word.1 c.args.i _ (λ i. omega (
+    one_among words c.match-word_of_one.word.0 c.place_in.result c.match-word_of_one.word.1 c.args.i _ (λ i. omega (
       arith,
       c.type_inv.words i,
     )) found.within c.place_in.ensures.within c.place_in.ensures.place found.number (omega (arith, c.from.ensures))
