@@ -2,14 +2,14 @@
 use Rattle.std.specs.Prelude.{◌≡◌, ℕ, ◌+◌, ◌<◌, ◌≤◌, true, cond, List, [], ◌∷◌, ◌++◌}
 use Rattle.std.specs.Prelude.{length, Option, Some, None, IfSome, ◌⊎◌}
 use Rattle.std.specs.Option.{unwrap_or, ForSome}
-use Rattle.std.proofs.Common.{refl, sym, ap, subst, ◌∙◌, arith, ⊎_elim}
+use Rattle.std.proofs.Common.{refl, sym, ap, subst, ◌∙◌, arith}
 use Rattle.std.proofs.lemmas.Bool.{lt-ltb}
 use Rattle.std.proofs.lemmas.List.{append-nil}
 use Rattle.pth_outside.specs.declared.TheConstants.{LONGEST_KEY}
 use Rattle.pth_outside.specs.Files.{FileMap, contents, IsThere, OfFile}
 use Rattle.pth_outside.specs.Keys.{keys_of}
 use Rattle.pth_outside.specs.Reading.{Reader, IsInStep, IsTooLong, HasLongFirst, HasLeft, lines_left}
-use Rattle.pth_outside.proofs.KeyFileLemmas.{KeysSoFar, so_far_new, so_far_more, of_file}
+use Rattle.pth_outside.proofs.KeyFileLemmas.{KeysSoFar, so_far_new, so_far_more, there_now, of_file}
 use Rattle.build_outcome.specs.Index.{KeyMarkData, IndexData}
 use Rattle.build_outcome.specs.IndexLaws.{IsOneToOne}
 use Rattle.build_outcome.specs.Values.{value_of}
@@ -40,14 +40,6 @@ first_so_far x name told r walk named place ahead lines walked = record {
   passed = HasPassed-none x;
   one_to_one = one_to_one-none x;
 }
-
--- the file is there once it was read
-there_now : (name : List ℕ) (told told' : Option FileMap) (r : Reader) (keys : List (List ℕ)) →
-    KeysSoFar name told r keys → told' ≡ told → (r.ahead ≡ [] → IsThere told' r.name) → IsThere told name
-there_now name told told' r keys so_far same there =
-    let P : Option FileMap → Type 0 = λ t. IsThere t r.name in
-    let Q : List ℕ → Type 0 = λ n. IsThere told n in
-    ⊎_elim (λ empty. subst Q so_far.named (subst P same (there empty))) (λ t. t) so_far.there
 
 -- nothing made of what is there or not is of nothing
 none_mapped : (o : Option ℕ) (f : ℕ → Checked) → Rattle.std.specs.Prelude.option_map f o ≡ None → o ≡ None

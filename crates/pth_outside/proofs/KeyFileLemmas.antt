@@ -129,7 +129,7 @@ so_far_new name told r keys named place ahead lines none = record {
 }
 
 -- the file is there once it was read
-there_now : (name : List ℕ) (told told' : Option FileMap) (r : Reader) (keys : List (List ℕ)) →
+pub there_now : (name : List ℕ) (told told' : Option FileMap) (r : Reader) (keys : List (List ℕ)) →
     KeysSoFar name told r keys → told' ≡ told → (r.ahead ≡ [] → IsThere told' r.name) → IsThere told name
 there_now name told told' r keys so_far same there =
     let P : Option FileMap → Type 0 = λ t. IsThere t r.name in

@@ -1,6 +1,6 @@
 -- The text of queries, read line by line.
 use Rattle.std.proofs.Common.{◌≡◌, ◌≤◌, ℕ, ◌+◌, List, [], ◌∷◌, ◌++◌, length, Option, Result, refl, sym, ap, subst, ◌∙◌, arith}
-use Rattle.std.proofs.Common.{⊎_elim, length-append}
+use Rattle.std.proofs.Common.{length-append}
 use Rattle.std.specs.Prelude.{codes}
 use Rattle.std.proofs.lemmas.List.{append_assoc, append-nil}
 use Rattle.pthash.specs.declared.TheConstants.{MAX_KEYS}
@@ -11,7 +11,7 @@ use Rattle.pth_outside.specs.declared.TheConstants.{LONGEST_KEY}
 use Rattle.pth_outside.specs.Files.{FileMap, contents, IsThere, OfFile}
 use Rattle.pth_outside.specs.Keys.{keys_of}
 use Rattle.pth_outside.specs.Reading.{Reader, IsInStep, HasLeft, lines_left}
-use Rattle.pth_outside.proofs.KeyFileLemmas.{KeysSoFar, so_far_new, so_far_more, no_long, of_file}
+use Rattle.pth_outside.proofs.KeyFileLemmas.{KeysSoFar, so_far_new, so_far_more, there_now, no_long, of_file}
 use Rattle.pth_top.specs.Done.{Done, said}
 use Rattle.pth_top.specs.Lists.{gives}
 use Rattle.pth_top.specs.Query.{query_result, value_line, value_lines, values_of}
@@ -59,14 +59,6 @@ values_more x name line told told' r r' text text' count value so_far same named
           ∙ ap (λ (v : Option ℕ). value_lines x keys ++ value_line v) is
           ∙ sym (value_lines_push x keys line);
     }
-
--- the file is there once it was read
-there_now : (name : List ℕ) (told told' : Option FileMap) (r : Reader) (keys : List (List ℕ)) →
-    KeysSoFar name told r keys → told' ≡ told → (r.ahead ≡ [] → IsThere told' r.name) → IsThere told name
-there_now name told told' r keys so_far same there =
-    let P : Option FileMap → Type 0 = λ t. IsThere t r.name in
-    let Q : List ℕ → Type 0 = λ n. IsThere told n in
-    ⊎_elim (λ empty. subst Q so_far.named (subst P same (there empty))) (λ t. t) so_far.there
 
 -- the text at the end of the lines is what the file gives
 pub values_end : (x : EncodedIndex) (name : List ℕ) (told told' : Option FileMap) (r : Reader) (text : List ℕ) (count : ℕ) →
