@@ -7,6 +7,7 @@ pub mod CommitKept
 pub mod TurnKept
 pub mod Seats
 pub mod Looked
+pub mod Flagged
 pub mod LastState
 pub mod Waiting
 pub mod CallerLemmas

@@ -1,5 +1,5 @@
 -- What the looks of a view say of pilots.
-use Rattle.std.proofs.Common.{◌≡◌, ℕ, ◌<◌, ◌≤◌, Bool, true, false, List, [], ◌∷◌, refl, arith}
+use Rattle.std.proofs.Common.{◌≡◌, ℕ, ◌<◌, ◌≤◌, Bool, true, false, List, [], ◌∷◌, refl, sym, ap, subst, arith}
 use Rattle.std.specs.Prelude.{not, nat_lt, None, Some, length, slice_index}
 use Rattle.std.specs.List.{list_all}
 use Rattle.std.specs.FinSet.{contains}
@@ -48,6 +48,13 @@ position_below plan rank k i room below =
     ltb-true (slice_index (positions_at plan rank k) i) plan.size
     (AllPass-from_list_all (λ p. nat_lt p plan.size) (positions_at plan rank k) (in_table plan rank k room) i 0
     (omega (arith, length-positions_at plan rank k)))
+
+-- a position of a list that is a pilot's is in the table
+pub position_in_table : (plan : SearchPlan) (rank k : ℕ) (positions : List ℕ) (i : ℕ) → 1 ≤ plan.size → positions ≡ positions_at plan rank k →
+    i < length positions → slice_index positions i < plan.size
+position_in_table plan rank k positions i room are below =
+    subst (λ ps. slice_index ps i < plan.size) (sym are)
+    (position_below plan rank k i room (omega (arith, ap length are, length-positions_at plan rank k, below)))
 
 -- a pilot that a view rejects while it holds the turn doesn't fit the state there
 pub rejected_fails : (view : View) (state : SearchState) (rank n : ℕ) → 1 ≤ view.plan.size → SeesState view state → RejectsBelow view rank n →

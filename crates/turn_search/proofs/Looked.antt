@@ -2,7 +2,7 @@
 use Rattle.std.proofs.Common.{◌≡◌, ℕ, ◌+◌, ◌/◌, ◌%◌, ◌<◌, ◌≤◌, Bool, true, false, ◌&&◌, ◌||◌, List, []}
 use Rattle.std.proofs.Common.{◌∷◌, ◌++◌, length, take, drop, refl, sym, ap}
 use Rattle.std.proofs.Common.{◌∙◌, subst, arith, ⊎_elim}
-use Rattle.std.specs.Prelude.{not, ◌==◌, slice_index, bit_xor, Some, Err, ◌↔◌}
+use Rattle.std.specs.Prelude.{not, ◌==◌, slice_index, bit_xor, Option, Some, None, IfSome, Err, ◌↔◌}
 use Rattle.std.specs.Int.{bit_at}
 use Rattle.std.specs.List.{list_all}
 use Rattle.std.proofs.Math.Seq.{drop-append_seam}
@@ -12,7 +12,7 @@ use Rattle.std.proofs.lemmas.Bool.{false_from_ne_true, eq-eqb, cases_lt}
 use Rattle.std.proofs.lemmas.List.{append-nil, append_assoc, drop-append-le, take_more, length-map, get_or-map, map-append}
 use Rattle.std.proofs.lemmas.List.Folds.{list_any-append, list_all-append}
 use Rattle.std.proofs.lemmas.List.Sums.{AllPass-from_list_all}
-use Rattle.pthash.specs.Search.{SearchPlan, prefix_of}
+use Rattle.pthash.specs.Search.{SearchPlan, is_distinct, prefix_of}
 use Rattle.pthash.specs.SearchLaws.{positions_at, fits_at, TakesMore, pilot_fits-more}
 use Rattle.pthash.specs.Order.{bucket_at}
 use Rattle.pilot_search.specs.Table.{positions_under}
@@ -22,7 +22,7 @@ use Rattle.turn_search.specs.declared.trying.Spec.{Spec}
 use Rattle.turn_search.specs.declared.trying.Spec.TheVariants.{Found, AllRejected}
 use Rattle.turn_search.specs.Looks.{found_taken, found_free, late_looks, RejectsBelow, IsCandidateBy, Shows, HasTurn}
 use Rattle.turn_search.specs.Told.{HasTurnIfHeld}
-use Rattle.turn_search.specs.Passes.{CandidateData, LooksAt, OnlyLooked, IsOfRank, IsPilotOf, new_looks}
+use Rattle.turn_search.specs.Passes.{CandidateData, LooksAt, OnlyLooked, IsOfRank, IsSpread, IsPilotOf, new_looks}
 use Rattle.turn_search.proofs.LookLemmas.{shown_is_pilot, rejected_has_none}
 use Rattle.turn_search.proofs.TurnKept.{prefix_of-next, prefix_of-stuck}
 use Rattle.turn_search.proofs.Moves.{same_rank}
@@ -181,6 +181,12 @@ candidate_on plan one two three rank k first second it = record {
       ∙ all_free_right (new_looks one two) (new_looks two three) (positions_at plan rank k) it.free;
 }
 
+-- so is what later tests found
+pub found_on : (plan : SearchPlan) (one two three : View) (rank : ℕ) (found : Option ℕ) → OnlyLooked one two → OnlyLooked two three →
+    IfSome found (λ k. IsCandidateBy plan (new_looks two three) rank k) → IfSome found (λ k. IsCandidateBy plan (new_looks one three) rank k)
+found_on plan one two three rank None first second it = it
+found_on plan one two three rank (Some k) first second it = candidate_on plan one two three rank k first second it
+
 -- a pilot that a second test finds while the turn is held is shown
 pub retest_shows : (before after : View) (rank k : ℕ) → OnlyLooked before after → HasTurnIfHeld before → before.holds ≡ true →
     before.claim ≡ Some rank → RejectsBelow after rank k → IsCandidateBy after.plan (new_looks before after) rank k → Shows after rank k
@@ -200,6 +206,30 @@ retest_shows before after rank k looked turn held claims rejects it =
             (subst (λ l. list_all (found_free l) (positions_at after.plan rank k) ≡ true) (new_looks-are before after looked) it.free);
       };
     }
+
+-- a candidate of which looks find each position free while the turn is held is shown
+pub spread_shows : (plan : SearchPlan) (before after : View) (it : CandidateData) (positions : List ℕ) → after.plan ≡ plan → OnlyLooked before after →
+    HasTurnIfHeld before → before.holds ≡ true → IsOfRank before it → IsSpread plan it positions →
+    list_all (found_free (new_looks before after)) positions ≡ true → Shows after it.rank it.pilot
+spread_shows plan before after it positions same looked turn held own spread free =
+    retest_shows before after it.rank it.pilot looked turn held own.rank (rejects_on before after it.rank it.pilot looked own.lower)
+    (subst (λ q. IsCandidateBy q (new_looks before after) it.rank it.pilot) (sym same)
+    record {
+      below = spread.below;
+      distinct = subst (λ ps. is_distinct ps ≡ true) spread.positions_are spread.distinct;
+      free = subst (λ ps. list_all (found_free (new_looks before after)) ps ≡ true) spread.positions_are free;
+    })
+
+-- a candidate is of its rank after more looks
+pub looked_candidate : (before after : View) (it : CandidateData) → OnlyLooked before after → IsOfRank before it → IsOfRank after it
+looked_candidate before after it looked own = record {
+  rank = ap (λ v. v.claim) looked.view ∙ own.rank;
+  lower = rejects_on before after it.rank it.pilot looked own.lower;
+}
+
+-- one answer, one candidate
+pub same_candidate : (one two : CandidateData) → Found one ≡ Found two → one ≡ two
+same_candidate one two is = cc
 
 -- so it is the pilot of the search
 pub shown_in_search : (view : View) (rank k : ℕ) → 1 ≤ view.plan.size → HasTurn view rank → Shows view rank k → IsPilotOf view.plan rank k

@@ -28,8 +28,8 @@ use Rattle.turn_search.proofs.TurnKept.{pass_allowed, stop_allowed}
 abbrev pub Keeps : SearchPlan → State (Unit {0}) View → Type 0
 Keeps plan s = Kept plan s.words s.views
 
-module _ (plan key : SearchPlan) (words slots : ℕ) (pilots : List ℕ) (bits size : ℕ)
-    (laid : IsLaid plan key words slots pilots bits size) (id : ℕ) (me : Me (Unit {0}) View) where
+module _ (plan key : SearchPlan) (words slots : ℕ) (pilots : List ℕ) (bits size : ℕ) (hashes : List ℕ)
+    (laid : IsLaid plan key words slots pilots bits size hashes) (id : ℕ) (me : Me (Unit {0}) View) where
   -- kind 2
   pub may_claim : (place mask : ℕ) → me.0.place ≡ place → me.0.claim ≡ None → place < ranks_of plan → mask ≡ 2 ^ (place % 64) →
       (1 + place / 64 < words) × Allows (Keeps key) slots id me (1 + place / 64) (λ n. bit_or n mask)

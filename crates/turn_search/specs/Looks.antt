@@ -1,5 +1,5 @@
 -- What a pass has found by its looks, and what it concludes about a pilot.
-use Rattle.std.specs.Prelude.{◌≡◌, ℕ, ◌<◌, ◌≤◌, ◌/◌, ◌%◌, Bool, true, false, not, ◌&&◌, ◌==◌, List, length, drop, Some, Ok}
+use Rattle.std.specs.Prelude.{◌≡◌, ℕ, ◌<◌, ◌≤◌, ◌/◌, ◌%◌, Bool, true, false, not, ◌&&◌, ◌==◌, List, length, drop, slice_index, bit_xor, Some, Ok}
 use Rattle.std.specs.List.{list_any, list_all}
 use Rattle.std.specs.Int.{bit_at}
 use Rattle.std.specs.FinSet.{contains}
@@ -16,6 +16,10 @@ found_taken looks p = list_any (λ look. look.word == p / 64 && bit_at look.valu
 -- whether some look found a position free
 abbrev pub found_free : List Look → ℕ → Bool
 found_free looks p = list_any (λ look. look.word == p / 64 && not (bit_at look.value (p % 64) == 1)) looks
+
+-- whether no look found the position taken that a member gets under the hash at a place
+abbrev pub is_open_under : List Look → List ℕ → ℕ → ℕ → ℕ → Bool
+is_open_under looks hashes member size place = not (found_taken looks (bit_xor member (slice_index hashes place) % size))
 
 -- of each pilot below k, two keys of the bucket at this rank share a position, or a look found one taken
 abbrev pub RejectsBelow : View → ℕ → ℕ → Type 0

@@ -1,8 +1,10 @@
 -- Tables, passes and candidates as contracts see them.
-use Rattle.std.specs.Prelude.{◌≡◌, ℕ, ◌+◌, ◌/◌, ◌%◌, ◌≤◌, ◌^◌, ◌==◌, Bool, not, false, [], ◌++◌, List, length}
+use Rattle.std.specs.Prelude.{◌≡◌, ℕ, ◌+◌, ◌/◌, ◌%◌, ◌<◌, ◌≤◌, ◌^◌, ◌==◌, Bool, not, true, false, [], ◌++◌, List, length}
 use Rattle.std.specs.Prelude.{drop, Some, Ok}
 use Rattle.std.specs.Int.{bit_at}
-use Rattle.pthash.specs.Search.{SearchPlan, SearchState, IsSearchable, prefix_of}
+use Rattle.pthash.specs.Search.{SearchPlan, SearchState, IsSearchable, is_distinct, prefix_of}
+use Rattle.pthash.specs.SearchLaws.{positions_at}
+use Rattle.pilot_search.specs.Kept.{AreHashes}
 use Rattle.atomic_table.specs.Seated.{TableId}
 use Rattle.atomic_table.specs.Table.{Me}
 use Rattle.turn_search.specs.declared.board.Look.{Look}
@@ -60,6 +62,12 @@ pub record IsOfRank (view : View) (candidate : CandidateData) : Type 0 where
   pub rank : view.claim ≡ Some candidate.rank
   pub lower : RejectsBelow view candidate.rank candidate.pilot
 
+-- positions are those of a candidate, and no two of them are equal
+pub record IsSpread (plan : SearchPlan) (candidate : CandidateData) (positions : List ℕ) : Type 0 where
+  pub below : candidate.pilot < plan.limit
+  pub positions_are : positions ≡ positions_at plan candidate.rank candidate.pilot
+  pub distinct : is_distinct positions ≡ true
+
 -- a pilot is the one that the search finds for a rank
 pub record IsPilotOf (plan : SearchPlan) (rank k : ℕ) : Type 0 where
   pub state : SearchState
@@ -75,8 +83,8 @@ pub record HasSeenStop (view : View) (rank : ℕ) : Type 0 where
   pub stop : HasStop view.last
   pub turn : turn_of view.last ≡ rank
 
--- what a table keeps: the plan is the key of its words, there is room for all pilots, and where the bits begin
-pub record IsLaid (plan key : SearchPlan) (words slots : ℕ) (pilots : List ℕ) (bits size : ℕ) : Type 0 where
+-- what a table keeps: the plan is the key of its words, there is room for all pilots, where the bits begin, and hashes of pilots
+pub record IsLaid (plan key : SearchPlan) (words slots : ℕ) (pilots : List ℕ) (bits size : ℕ) (hashes : List ℕ) : Type 0 where
   pub searchable : IsSearchable plan
   pub ranks : ranks_of plan ≤ 2 ^ 28
   pub same_key : key ≡ plan
@@ -85,6 +93,7 @@ pub record IsLaid (plan key : SearchPlan) (words slots : ℕ) (pilots : List ℕ
   pub room : length pilots ≡ ranks_of plan
   pub bits_are : bits ≡ bits_from plan
   pub same_size : size ≡ plan.size
+  pub hashes_are : AreHashes plan.seed hashes
 
 -- what a pass keeps: its place is that of its view, it has claimed the rank before its place, and its looks are true where it holds the turn
 pub record IsSeated (me : Me (Unit {0}) View) (place : ℕ) : Type 0 where

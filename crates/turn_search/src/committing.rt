@@ -28,9 +28,24 @@ impl<'a> TurnTable<'a> {
         ensures room { scratch.new.members ≡ scratch.old.members }
     {
         let rank = pass.rank();
+        spread(self.plan, rank, candidate.pilot(), scratch);
+        self.commit_at(pass, candidate, scratch.positions());
+    }
+
+    // The same with the candidate's positions at hand.
+    pub(crate) fn commit_at(&self, pass: &mut Pass, candidate: Candidate, positions: &[u64])
+        requires pass { IsPassOf self.now pass.old }
+        requires shown { Shows pass.old.view candidate.rank candidate.pilot }
+        requires positions { positions.now
+            ≡ positions_at self.now.plan candidate.rank candidate.pilot }
+        ensures pass { IsPassOf self.now pass.new }
+        ensures view { pass.new.view ≡ after_pass pass.old.view candidate.rank }
+        ensures no_claim { pass.new.view.claim ≡ None }
+        ensures turn { pass.new.view.last ≡ candidate.rank + 1 }
+    {
+        let rank = pass.rank();
         let pilot = candidate.pilot();
-        spread(self.plan, rank, pilot, scratch);
-        self.set_bits(pass, rank, pilot, scratch.positions());
+        self.set_bits(pass, rank, pilot, positions);
         self.store_pilot(pass, rank, pilot);
         self.pass_turn(pass, rank);
     }

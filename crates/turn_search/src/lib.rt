@@ -6,8 +6,11 @@ mod claiming;
 mod closing;
 mod committing;
 mod gate;
+mod groups;
+mod hashes;
 mod layout;
 mod plays;
+mod retesting;
 mod searching;
 mod table;
 #[cfg(test)]

@@ -6,6 +6,7 @@ ghost use Rattle.turn_search.specs.Steps.{new_view};
 ghost use Rattle.turn_search.specs.Passes.{IsPassOf};
 
 use crate::board::{Board, Place};
+use crate::hashes::hashes_of;
 use crate::layout::{bits_from, word_count};
 use crate::plays::SplitStep;
 use atomic_table::Table;
@@ -25,6 +26,8 @@ pub struct TurnTable<'a> {
     // the first word of the positions' bits
     pub(crate) bits: u64,
     pub(crate) size: Divisor,
+    // the hashes of the first pilots
+    pub(crate) hashes: Vec<u64>,
 }
 
 impl<'a> Model for TurnTable<'a> {
@@ -36,7 +39,7 @@ impl<'a> Model for TurnTable<'a> {
 
     ghost invariant = { λ a. let shared = a.board.shared in
         IsLaid a.plan.now shared.key shared.table_id.words shared.table_id.slots a.pilots.items
-        a.bits a.size };
+        a.bits a.size a.hashes.items };
 }
 
 /// What one worker carries through a search: its claim, and what it has found.
@@ -76,6 +79,7 @@ impl<'a> TurnTable<'a> {
         ensures view { IfOk result (λ made. made.1.view ≡ new_view plan.now 0) }
     {
         let pilots = vec![in alloc; 0; plan.ranks() as usize]?;
+        let hashes = hashes_of(alloc, plan)?;
         let (board, seat) = lay(alloc, plan)?;
         let table = Self {
             plan,
@@ -83,6 +87,7 @@ impl<'a> TurnTable<'a> {
             pilots,
             bits: bits_from(plan),
             size: Divisor::new(plan.size()),
+            hashes,
         };
         let place = 0;
         Ok((table, Pass { seat, place }))

@@ -5,7 +5,7 @@ ghost use Rattle.std.specs.List.{list_all};
 ghost use Rattle.pthash.specs.Order.{bucket_at, most_members};
 ghost use Rattle.pthash.specs.Search.{prefix_of};
 ghost use Rattle.pilot_search.specs.Table.{positions_under};
-ghost use Rattle.pthash.specs.SearchLaws.{fits_at};
+ghost use Rattle.pthash.specs.SearchLaws.{positions_at, fits_at};
 ghost use Rattle.turn_search.specs.Words.{ranks_of};
 ghost use Rattle.turn_search.specs.Looks.{found_taken, found_free, RejectsBelow, IsCandidateBy, Shows};
 ghost use Rattle.turn_search.specs.Told.{HasTurnIfHeld};
@@ -18,6 +18,9 @@ use crate::table::{Pass, TurnTable};
 use divisor::Divisor;
 use pilot_search::{Scratch, spread};
 use std::marker::Model;
+
+// Where one part in so many of the ranks has its pilots, a quarter of the positions or so is taken.
+const FEW_TAKEN: u64 = 8;
 
 /// A pilot that a pass has found for its rank.
 #[derive(Drop)]
@@ -72,6 +75,8 @@ impl<'a> TurnTable<'a> {
         ensures rank { (it : CandidateData) → result ≡ Found it → IsOfRank pass.new.view it }
         ensures found { (it : CandidateData) → result ≡ Found it →
             IsCandidateBy self.now.plan (new_looks pass.old.view pass.new.view) it.rank it.pilot }
+        ensures positions { (it : CandidateData) → result ≡ Found it →
+            scratch.new.positions ≡ positions_at self.now.plan it.rank it.pilot }
         ensures all_rejected { (rank : ℕ) → pass.old.view.claim ≡ Some rank →
             result ≡ AllRejected → RejectsBelow pass.new.view rank self.now.plan.limit }
     {
@@ -97,6 +102,8 @@ impl<'a> TurnTable<'a> {
             IsPilotOf self.now.plan it.rank it.pilot }
         ensures same_rank { (it : CandidateData) → result ≡ Found it →
             it.rank ≡ candidate.rank }
+        ensures positions { (it : CandidateData) → result ≡ Found it →
+            scratch.new.positions ≡ positions_at self.now.plan it.rank it.pilot }
 
         ensures stuck { (result ≡ AllRejected)
             ↔ (prefix_of self.now.plan (candidate.rank + 1) ≡ Err candidate.rank) }
@@ -111,7 +118,7 @@ impl<'a> TurnTable<'a> {
 
     // Nothing is done: a pass that holds the turn has looks that are true of the search.
     #[inline]
-    fn know_turn(&self, pass: &Pass)
+    pub(crate) fn know_turn(&self, pass: &Pass)
         ensures turn { HasTurnIfHeld pass.now.view }
         ensures size { 1 ≤ self.now.plan.size }
     {
@@ -132,6 +139,8 @@ impl<'a> TurnTable<'a> {
         ensures rank { (it : CandidateData) → result ≡ Found it → IsOfRank pass.new.view it }
         ensures found { (it : CandidateData) → result ≡ Found it →
             IsCandidateBy self.now.plan (new_looks pass.old.view pass.new.view) it.rank it.pilot }
+        ensures positions { (it : CandidateData) → result ≡ Found it →
+            scratch.new.positions ≡ positions_at self.now.plan it.rank it.pilot }
         ensures all_rejected { (rank : ℕ) → pass.old.view.claim ≡ Some rank →
             result ≡ AllRejected → RejectsBelow pass.new.view rank self.now.plan.limit }
     {
@@ -142,7 +151,7 @@ impl<'a> TurnTable<'a> {
         }
     }
 
-    // The least pilot from `first` on that is not rejected.
+    // The least pilot from `first` on that is not rejected, and then its positions.
     fn find_from(
         &self,
         pass: &mut Pass,
@@ -161,11 +170,45 @@ impl<'a> TurnTable<'a> {
         ensures lower { IfSome result (λ pilot. RejectsBelow pass.new.view rank pilot) }
         ensures found { let looks = new_looks pass.old.view pass.new.view in
             IfSome result (λ pilot. IsCandidateBy self.now.plan looks rank pilot) }
+        ensures positions { let places = positions_at self.now.plan rank in
+            IfSome result (λ pilot. scratch.new.positions ≡ places pilot) }
         ensures all_rejected { IfNone result
             (RejectsBelow pass.new.view rank self.now.plan.limit) }
     {
+        if rank <= self.plan.ranks() / FEW_TAKEN {
+            self.find_between(pass, rank, first, self.plan.limit(), scratch)
+        } else {
+            self.find_by_groups(pass, rank, first, scratch)
+        }
+    }
+
+    // The same below `end`, one pilot after another.
+    pub(crate) fn find_between(
+        &self,
+        pass: &mut Pass,
+        rank: u64,
+        first: u64,
+        end: u64,
+        scratch: &mut Scratch,
+    ) -> Option<u64>
+        requires pass { IsPassOf self.now pass.old }
+        requires claim { pass.old.view.claim ≡ Some rank }
+        requires rank { rank < ranks_of self.now.plan }
+        requires end { end ≤ self.now.plan.limit }
+        requires room { most_members self.now.plan.buckets ≤ scratch.old.members }
+        requires lower { RejectsBelow pass.old.view rank first }
+        ensures pass { IsPassOf self.now pass.new }
+        ensures looks { OnlyLooked pass.old.view pass.new.view }
+        ensures room { scratch.new.members ≡ scratch.old.members }
+        ensures lower { IfSome result (λ pilot. RejectsBelow pass.new.view rank pilot) }
+        ensures found { let looks = new_looks pass.old.view pass.new.view in
+            IfSome result (λ pilot. IsCandidateBy self.now.plan looks rank pilot) }
+        ensures positions { let places = positions_at self.now.plan rank in
+            IfSome result (λ pilot. scratch.new.positions ≡ places pilot) }
+        ensures all_rejected { IfNone result (RejectsBelow pass.new.view rank end) }
+    {
         let members = self.plan.members(rank);
-        for pilot in first..self.plan.limit() {
+        for pilot in first..end {
             if self.try_pilot(pass, rank, members, pilot, &self.size, scratch) {
                 return Some(pilot);
             }
@@ -174,7 +217,7 @@ impl<'a> TurnTable<'a> {
     }
 
     // Whether the pilot's positions are distinct and all of them were found free.
-    fn try_pilot(
+    pub(crate) fn try_pilot(
         &self,
         pass: &mut Pass,
         rank: u64,
@@ -195,10 +238,12 @@ impl<'a> TurnTable<'a> {
         ensures room { scratch.new.members ≡ scratch.old.members }
         ensures found { let looks = new_looks pass.old.view pass.new.view in
             result ≡ true → IsCandidateBy self.now.plan looks rank pilot }
+        ensures positions { let places = positions_at self.now.plan rank in
+            result ≡ true → scratch.new.positions ≡ places pilot }
         ensures rejected { let taken = found_taken pass.new.view.looks in
             result ≡ false → fits_at pass.new.view.plan taken rank pilot ≡ false }
     {
-        let hash = scratch.pilot_hash(pilot, self.plan.seed());
+        let hash = self.hash_of(pilot);
         if !self.are_free(pass, members, hash, size) {
             return false;
         }
@@ -228,7 +273,8 @@ impl<'a> TurnTable<'a> {
     }
 
     // Whether a look finds the position free.
-    fn is_free(&self, pass: &mut Pass, position: u64) -> bool
+    #[inline]
+    pub(crate) fn is_free(&self, pass: &mut Pass, position: u64) -> bool
         requires pass { IsPassOf self.now pass.old }
         requires claim { pass.old.view.claim ≢ None }
         requires position { position < self.now.plan.size }

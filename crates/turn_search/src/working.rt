@@ -4,7 +4,7 @@ ghost use Rattle.std.specs.Prelude.{◌≡◌, ◌≢◌, ℕ, ◌<◌, ◌≤�
 ghost use Rattle.pthash.specs.Order.{most_members};
 ghost use Rattle.turn_search.specs.Words.{ranks_of, HasStop};
 ghost use Rattle.turn_search.specs.Looks.{RejectsBelow};
-ghost use Rattle.turn_search.specs.Passes.{IsPassOf, IsOfRank};
+ghost use Rattle.turn_search.specs.Passes.{IsPassOf, IsOfRank, IsSpread};
 ghost use Rattle.turn_search.specs.Works.{KeepsClaim, IsSettled, IsDone};
 
 use crate::claiming::Claim;
@@ -58,7 +58,7 @@ impl<'a> TurnTable<'a> {
         }
     }
 
-    // Waits for the turn, and tests the candidate again.
+    // Waits for the turn, and tests the candidate again, whose positions are at hand.
     fn settle_with<R: Wait, G: Gate>(
         &self,
         rt: &R,
@@ -71,6 +71,7 @@ impl<'a> TurnTable<'a> {
         requires pass { IsPassOf self.now pass.old }
         requires claim { pass.old.view.claim ≡ Some rank }
         requires candidate { IsOfRank pass.old.view candidate }
+        requires spread { IsSpread self.now.plan candidate scratch.old.positions }
         requires room { most_members self.now.plan.buckets ≤ scratch.old.members }
         ensures pass { IsPassOf self.now pass.new }
         ensures settled { IsSettled pass.old.view pass.new.view result }
@@ -80,9 +81,9 @@ impl<'a> TurnTable<'a> {
             return false;
         }
         gate.turn(rank);
-        match self.retest(pass, candidate, scratch) {
+        match self.retest_spread(pass, candidate, scratch) {
             Spec::Found(shown) => {
-                self.commit(pass, shown, scratch);
+                self.commit_at(pass, shown, scratch.positions());
                 true
             }
             Spec::AllRejected => {

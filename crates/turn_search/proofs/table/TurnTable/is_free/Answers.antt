@@ -9,7 +9,7 @@ load-found-requires c =
     let pass = c.pass.inside in
     let below : c.args.position / 64 < words_for table.plan.now.size = omega (arith, c.requires.position, ap (λ t. t.plan.size) c.self.view_is) in
     let may = may_look table.plan.now table.board.shared.key table.board.shared.table_id.words table.board.shared.table_id.slots table.pilots.items
-    table.bits table.size c.self.invariant
+    table.bits table.size table.hashes.items c.self.invariant
     pass.seat.id pass.seat.me table.bits (c.args.position / 64) c.self.invariant.bits_are
     (ap (λ p. p.view.plan) c.pass.view_is ∙ c.requires.pass.same_plan ∙ sym (ap (λ t. t.plan) c.self.view_is))
     (ap (λ p. p.view.bits) c.pass.view_is ∙ c.requires.pass.set_nothing) below in

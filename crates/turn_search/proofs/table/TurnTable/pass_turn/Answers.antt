@@ -9,7 +9,7 @@ fetch_add-requires c =
     let table = c.self.inside in
     let pass = c.pass.inside in
     let may = may_pass table.plan.now table.board.shared.key table.board.shared.table_id.words table.board.shared.table_id.slots table.pilots.items
-    table.bits table.size c.self.invariant
+    table.bits table.size table.hashes.items c.self.invariant
     pass.seat.id pass.seat.me c.args.rank
     (ap (λ p. p.view.holds) c.pass.view_is ∙ c.requires.holds) (ap (λ p. p.view.claim) c.pass.view_is ∙ c.requires.claim)
     (subst (λ (x : PassData × TurnTableData). x.0.view.bits ≡ keys_at x.1.plan c.args.rank)

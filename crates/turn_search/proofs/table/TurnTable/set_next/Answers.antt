@@ -15,7 +15,7 @@ fetch_or-requires c =
     let rank = c.args.rank in
     let pilot = c.args.pilot in
     let may = may_set table.plan.now table.board.shared.key table.board.shared.table_id.words table.board.shared.table_id.slots table.pilots.items
-    table.bits table.size c.self.invariant
+    table.bits table.size table.hashes.items c.self.invariant
     pass.seat.id pass.seat.me table.bits rank pilot c.args.position _ c.self.invariant.bits_are
     (subst (λ (p : PassData). Shows p.view rank pilot) (sym c.pass.view_is) c.requires.shown)
     (subst (λ (x : PassData × TurnTableData). x.0.view.bits < keys_at x.1.plan rank) (λ i. (sym c.pass.view_is i, sym c.self.view_is i)) c.requires.left)

@@ -12,7 +12,7 @@ fetch_or-requires c =
     let turn = c.pass.invariant.has_turn held in
     let claims = sym (ap (λ p. p.view.claim) c.pass.view_is) ∙ turn.1.claims in
     let may = may_stop table.plan.now table.board.shared.key table.board.shared.table_id.words table.board.shared.table_id.slots table.pilots.items
-    table.bits table.size c.self.invariant
+    table.bits table.size table.hashes.items c.self.invariant
     pass.seat.id pass.seat.me turn.0 held turn.1.claims
     (ap (λ p. p.view.bits) c.pass.view_is ∙ c.requires.pass.set_nothing)
     (subst (λ (x : PassData × TurnTableData). RejectsBelow x.0.view turn.0 x.1.plan.limit) (λ i. (sym c.pass.view_is i, sym c.self.view_is i))

@@ -16,7 +16,7 @@ store-requires c =
     let claims = ap (λ p. p.view.claim) c.pass.view_is ∙ c.requires.shown.claims in
     let within : rank < ranks_of table.plan.now = omega (arith, ap ranks_of same, c.pass.invariant.claim_is rank claims, c.pass.invariant.place_within) in
     let may = may_store table.plan.now table.board.shared.key table.board.shared.table_id.words table.board.shared.table_id.slots table.pilots.items
-    table.bits table.size c.self.invariant
+    table.bits table.size table.hashes.items c.self.invariant
     pass.seat.id pass.seat.me c.pilots_from.result rank pilot c.pilots_from.ensures.value
     (subst (λ (p : PassData). Shows p.view rank pilot) (sym c.pass.view_is) c.requires.shown)
     (subst (λ (x : PassData × TurnTableData). x.0.view.bits ≡ keys_at x.1.plan rank)

@@ -11,7 +11,7 @@ fetch_or-found-requires c =
     let left : pass.place < ranks_of table.plan.now =
     omega (arith, c.requires.left, ap (λ t. ranks_of t.plan) c.self.view_is, ap (λ p. p.view.place) c.pass.view_is, c.pass.invariant.place_is) in
     let may = may_claim table.plan.now table.board.shared.key table.board.shared.table_id.words table.board.shared.table_id.slots table.pilots.items
-    table.bits table.size c.self.invariant
+    table.bits table.size table.hashes.items c.self.invariant
     pass.seat.id pass.seat.me pass.place _ c.pass.invariant.place_is (ap (λ p. p.view.claim) c.pass.view_is ∙ c.requires.no_claim) left
     (one_shl-word (pass.place % 64) (omega arith)) in
     (ap (λ p. p.table) c.pass.view_is ∙ c.requires.pass.same_table ∙ sym (ap (λ t. t.table) c.self.view_is), may.0, may.1)

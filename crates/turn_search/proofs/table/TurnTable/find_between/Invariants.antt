@@ -1,7 +1,7 @@
 use Rattle.std.proofs.Common.{◌≡◌}
 use Rattle.turn_search.specs.Looks.{RejectsBelow}
 use Rattle.turn_search.specs.Passes.{IsPassOf, OnlyLooked}
-use Rattle.turn_search.proofs.table.TurnTable.find_from.Given as goal
+use Rattle.turn_search.proofs.table.TurnTable.find_between.Given as goal
 
 abbrev pub invariant-loop-pilot : goal.invariant-loop-pilot
 invariant-loop-pilot l =
