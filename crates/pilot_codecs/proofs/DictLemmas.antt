@@ -133,25 +133,37 @@ or_yes true = refl
 or_yes false = refl
 
 -- anything or false is itself
-or_no : (b : Bool) → (b || false) ≡ b
+pub or_no : (b : Bool) → (b || false) ≡ b
 or_no true = refl
 or_no false = refl
 
--- a mark more marks what one index more names
+-- the last of three may be put to the second first
+or_assoc : (a b c : Bool) → ((a || b) || c) ≡ (a || (b || c))
+or_assoc true b c = refl
+or_assoc false b c = refl
+
+-- a mark more marks what one index more names, beside what was marked before
+pub mark_more : (used : List Bool) (ps : List ℕ) (i p d : ℕ) (was : Bool) → i < length ps → p ≡ get_or ps i 0 → p < length used →
+    get_or used d false ≡ (was || is_among d (take i ps)) → get_or (set used p true) d false ≡ (was || is_among d (take (i + 1) ps))
+mark_more used ps i p d was lt e small so_far =
+    let more : is_among d (take (i + 1) ps) ≡ (is_among d (take i ps) || eqb d p) = is_among-more d ps i lt
+    ∙ ap (λ (x : ℕ). is_among d (take i ps) || eqb d x) (sym e) in
+    let all : ((was || is_among d (take i ps)) || eqb d p) ≡ (was || is_among d (take (i + 1) ps)) = or_assoc was (is_among d (take i ps)) (eqb d p)
+    ∙ ap (λ (b : Bool). was || b) (sym more) in
+    elim (cases_eq d p) [
+      | inl same ↦
+          ap (λ (x : ℕ). get_or (set used p true) x false) same ∙ get_or-set_same used p true false small
+          ∙ sym (or_yes (was || is_among d (take i ps))) ∙ ap (λ (b : Bool). (was || is_among d (take i ps)) || b) (sym (eq-eqb d p same)) ∙ all
+      | inr ne ↦
+          get_or-set_other used p d true false ne ∙ so_far ∙ sym (or_no (was || is_among d (take i ps)))
+          ∙ ap (λ (b : Bool). (was || is_among d (take i ps)) || b) (sym (ne_eqb d p ne)) ∙ all
+    ]
+
+-- the same for each index, where nothing was marked before
 pub marked_more : (used : List Bool) (ps : List ℕ) (i p size : ℕ) → length used ≡ size → i < length ps → p ≡ get_or ps i 0 → p < size →
     ((d : ℕ) → d < size → get_or used d false ≡ is_among d (take i ps)) →
     (d : ℕ) → d < size → get_or (set used p true) d false ≡ is_among d (take (i + 1) ps)
-marked_more used ps i p size n lt e small so_far d ok =
-    let more = is_among-more d ps i lt ∙ ap (λ (x : ℕ). is_among d (take i ps) || eqb d x) (sym e) in
-    elim (cases_eq d p) [
-      | inl same ↦
-          let here : get_or (set used p true) p false ≡ true = get_or-set_same used p true false (omega (arith, n)) in
-          ap (λ (x : ℕ). get_or (set used p true) x false) same ∙ here
-          ∙ sym (more ∙ ap (λ (b : Bool). is_among d (take i ps) || b) (eq-eqb d p same) ∙ or_yes (is_among d (take i ps)))
-      | inr ne ↦
-          get_or-set_other used p d true false ne ∙ so_far d ok
-          ∙ sym (more ∙ ap (λ (b : Bool). is_among d (take i ps) || b) (ne_eqb d p ne) ∙ or_no (is_among d (take i ps)))
-    ]
+marked_more used ps i p size n lt e small so_far d ok = mark_more used ps i p d false lt e (omega (arith, n, small)) (so_far d ok)
 
 -- at most all are counted
 rise_from-le : (b : ℕ) (ds : List ℕ) → rise_from b ds ≤ length ds

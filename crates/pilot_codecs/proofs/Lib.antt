@@ -6,6 +6,7 @@ pub mod HeadLemmas
 pub mod GroupLemmas
 pub mod GroupLaws
 pub mod DictLemmas
+pub mod WalkLemmas
 pub mod DictLaws
 pub mod DictForms
 pub mod SortLemmas

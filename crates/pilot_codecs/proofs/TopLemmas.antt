@@ -1,12 +1,32 @@
 -- The width of packed numbers, by their top bits.
-use Rattle.std.proofs.Common.{◌≡◌, ℕ, zero, suc, ◌+◌, ◌*◌, ◌/◌, ◌-◌, ◌^◌, ◌<◌, ◌≤◌, List, length, get_or, ap, ◌∙◌}
+use Rattle.std.proofs.Common.{◌≡◌, ℕ, zero, suc, ◌+◌, ◌*◌, ◌/◌, ◌-◌, ◌^◌, ◌<◌, ◌≤◌, ◌%◌, List, length, get_or, sym, ap, ◌∙◌}
 use Rattle.std.proofs.Common.{inl, inr, arith}
 use Rattle.std.proofs.Math.Nat.{pow-suc, pow-le-pow_right}
+use Rattle.std.proofs.Math.Pow.{field}
+use Rattle.std.proofs.lemmas.Nat.{shr-shr, shr_split}
 use Rattle.std.proofs.lemmas.Bool.{cases_lt, lt-ltb, le-ltb}
+use Rattle.bit_vector.proofs.PackLemmas.{below_from_div}
 use Rattle.elias_fano.specs.Spelling.{log2_within}
 use Rattle.pilot_codecs.specs.Spelling.{digits_of, greatest}
 use Rattle.pilot_codecs.proofs.FieldLemmas.{digits_of-is, digits_of-pos, get_or-le-greatest}
 use Rattle.pilot_codecs.proofs.DictLaws.{greatest_within}
+
+-- the top bit of a number among others is what is left of it without its lower bits
+pub top_bit : (n w i at v : ℕ) → 0 < w → at ≡ i * w + (w - 1) → n / 2 ^ (i * w) % 2 ^ w ≡ v → n / 2 ^ at % 2 ^ 1 ≡ v / 2 ^ (w - 1)
+top_bit n w i at v some place e =
+    let x = n / 2 ^ (i * w) in
+    let r = w - 1 in
+    let digits : 1 + r ≡ w = omega (arith, some) in
+    ap (λ (k : ℕ). n / 2 ^ k % 2 ^ 1) place ∙ ap (λ (k : ℕ). k % 2 ^ 1) (sym (shr-shr n (i * w) r)) ∙ sym (field x 1 r)
+    ∙ ap (λ (k : ℕ). x % 2 ^ k / 2 ^ r) digits ∙ ap (λ (k : ℕ). k / 2 ^ r) e
+
+-- a number whose top bit is set reaches the power of that bit
+pub top_set : (v r b : ℕ) → b ≡ v / 2 ^ r → b ≡ 1 → 2 ^ r ≤ v
+top_set v r b e one = omega (arith, ap (λ (k : ℕ). k * 2 ^ r) (sym e ∙ one), shr_split v r)
+
+-- a number whose top bit is clear is below that power
+pub top_clear : (v r b : ℕ) → b ≡ v / 2 ^ r → b < 2 → (b ≡ 1 → ⊥) → v < 2 ^ r
+top_clear v r b e small other = below_from_div v r (omega (arith, e, small, other))
 
 -- the logarithm of a number below a power of two is below the exponent
 log2_below : (most r n : ℕ) → n < 2 ^ suc r → log2_within most n ≤ r

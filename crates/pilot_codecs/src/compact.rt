@@ -1,13 +1,15 @@
 // Numbers in the width of the greatest.
 ghost use Rattle.std.specs.Prelude.{◌≡◌, ◌+◌, ◌*◌, ◌^◌, ◌<◌, ◌≤◌, ◌++◌, ◌↔◌, length, take, drop, IfOk, OnOk, IsTrue};
+ghost use Rattle.std.specs.Prelude.{ℕ, ◌||◌, false, get_or};
 ghost use Rattle.std.specs.List.{slice_get, flat_map};
-ghost use Rattle.elias_fano.specs.Spelling.{number};
+ghost use Rattle.elias_fano.specs.Spelling.{number, is_among};
 ghost use Rattle.elias_fano.specs.Values.{below_len};
 ghost use Rattle.elias_fano.specs.Reading.{Gives, HidesNoShort};
 ghost use Rattle.pilot_codecs.specs.Spelling.{digits_of, greatest, compact_text};
-ghost use Rattle.pilot_codecs.specs.Reading.{packed_at, compact_at};
+ghost use Rattle.pilot_codecs.specs.Reading.{packed_at, compact_at, are_below};
 ghost use Rattle.pilot_codecs.specs.Parts.{values_in, IsCompact};
 
+use crate::walk::{count_below, mark_each};
 use bit_vector::{NoMemory, append_fields, bits_at, is_packed};
 use elias_fano::{
     FormFault, PADDING, ReadErr, SHORT, WIDTH, append_words, put_numbers, read_number,
@@ -64,11 +66,14 @@ fn is_width_of(words: &[u64], count: u64, width: u32) -> bool
     if width == 1 {
         return true;
     }
-    let top = 1 << (width - 1);
-    for i in 0..count {
-        if bits_at(words, (i * u64::from(width)) as usize, width) >= top {
+    let step = width as usize;
+    // The place of the top bit.
+    let mut at = step - 1;
+    for _ in 0..count {
+        if bits_at(words, at, 1) == 1 {
             return true;
         }
+        at += step;
     }
     false
 }
@@ -82,12 +87,7 @@ pub fn below_in(words: &[u64], count: u64, width: u32, bound: u64) -> u64
     if is_narrow(width, bound) {
         return count;
     }
-    for i in 0..count {
-        if bits_at(words, (i * u64::from(width)) as usize, width) >= bound {
-            return i;
-        }
-    }
-    count
+    count_below(words, count, width, bound)
 }
 
 // Whether no number of a width reaches a bound.
@@ -236,6 +236,15 @@ impl Compact {
         ensures { result ≡ below_len bound self.now }
     {
         below_in(&self.words, self.count, self.width, bound)
+    }
+
+    /// Sets the mark of each value, up to the first without one, and says whether each has one.
+    pub fn mark(&self, marks: &mut [bool]) -> bool
+        ensures value { result ≡ are_below (length marks.old) self.now }
+        ensures marks { IsTrue result → (d : ℕ) → d < length marks.old → get_or marks.new d false
+            ≡ (get_or marks.old d false || is_among d self.now) }
+    {
+        mark_each(marks, &self.words, self.count, self.width)
     }
 
     /// Appends the spelling; on want of memory a part of it.

@@ -29,12 +29,8 @@ pub fn below_and_used(
     ensures used { IfOk result (λ b. IsTrue b.0 → b.1 ≡ are_used size places.now) }
 {
     let mut used = vec![in alloc; false; size]?;
-    for i in 0..places.len() {
-        let place = places.get(i).unwrap();
-        if place >= size as u64 {
-            return Ok((false, false));
-        }
-        used[place as usize] = true;
+    if !places.mark(used.as_mut_slice()) {
+        return Ok((false, false));
     }
     Ok((true, !used.contains(&false)))
 }

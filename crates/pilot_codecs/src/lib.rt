@@ -11,6 +11,7 @@ mod part;
 mod parted;
 mod pilots;
 mod sums;
+mod walk;
 
 pub use bit_vector::NoMemory;
 pub use code::{Code, Encoding};
