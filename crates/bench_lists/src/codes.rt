@@ -9,8 +9,8 @@ use std::io;
 use std::rt::Clock;
 use std::time::Instant;
 
-/// How long a part takes: making the list, reading its spelling, or random values of it.
-pub fn time_code(
+// How long a part takes: making the list, reading its spelling, or random values of it.
+pub(crate) fn time_code(
     alloc: Global,
     clock: &impl Clock,
     part: &str,
@@ -33,22 +33,24 @@ pub fn time_code(
     let nanos = start.elapsed(clock)?.as_nanos();
     match part {
         "get" => time_values(clock, &list, count),
-        _ => {
-            let mut text = Vec::new(alloc);
-            if list.write(&mut text).is_err() {
-                return Err(out_of_memory());
-            }
-            if part == "read" {
-                return time_read(alloc, clock, &text, list.len(), enc);
-            }
-            Ok(Timed {
-                nanos,
-                checksum: text.len() as u64,
-            })
-        }
+        "read" => time_read(alloc, clock, &text_of(alloc, &list)?, list.len(), enc),
+        _ => Ok(Timed {
+            nanos,
+            checksum: text_of(alloc, &list)?.len() as u64,
+        }),
     }
 }
 
+// The spelling of a list.
+fn text_of(alloc: Global, list: &Pilots) -> io::Result<Vec<u8>> {
+    let mut text = Vec::new(alloc);
+    match list.write(&mut text) {
+        Ok(()) => Ok(text),
+        Err(_) => Err(out_of_memory()),
+    }
+}
+
+// Random values of a list.
 fn time_values(clock: &impl Clock, list: &Pilots, count: u32) -> io::Result<Timed> {
     let start = Instant::now(clock)?;
     let mut numbers = Numbers { state: 2 };
@@ -61,6 +63,7 @@ fn time_values(clock: &impl Clock, list: &Pilots, count: u32) -> io::Result<Time
     Ok(Timed { nanos, checksum })
 }
 
+// The reading of a list from its spelling.
 fn time_read(
     alloc: Global,
     clock: &impl Clock,

@@ -6,12 +6,13 @@ use std::alloc::{AllocError, Global};
 
 // A generator of numbers: SplitMix64 (Steele, Lea and Flood, OOPSLA 2014).
 #[derive(Drop)]
-pub struct Numbers {
-    pub state: u64,
+pub(crate) struct Numbers {
+    pub(crate) state: u64,
 }
 
 impl Numbers {
-    pub fn next(&mut self) -> u64 {
+    // The next number.
+    pub(crate) fn next(&mut self) -> u64 {
         self.state = self.state.wrapping_add(0x9e37_79b9_7f4a_7c15);
         let z = (self.state ^ (self.state >> 30)).wrapping_mul(0xbf58_476d_1ce4_e5b9);
         let z = (z ^ (z >> 27)).wrapping_mul(0x94d0_49bb_1331_11eb);
@@ -20,7 +21,7 @@ impl Numbers {
 }
 
 // Values that don't fall, with random steps of 64 less `shift` bits.
-pub fn rising(alloc: Global, count: u32, shift: u32) -> Result<Vec<u64>, AllocError>
+pub(crate) fn rising(alloc: Global, count: u32, shift: u32) -> Result<Vec<u64>, AllocError>
     requires { shift < 64 }
     ensures { IfOk result (λ v. rises 0 v.items ≡ true) }
 {

@@ -10,20 +10,27 @@ use std::rt::Clock;
 use std::time::Instant;
 
 // How many questions are asked.
-pub const QUESTIONS: u32 = 1_000_000;
+pub(crate) const QUESTIONS: u32 = 1_000_000;
 
+// How long a part took, and a checksum of its answers.
 #[derive(Drop)]
-pub struct Timed {
-    pub nanos: u128,
-    pub checksum: u64,
+pub(crate) struct Timed {
+    pub(crate) nanos: u128,
+    pub(crate) checksum: u64,
 }
 
-pub fn out_of_memory() -> io::Error {
+// The error where memory ran out, or where a list is too long for its type.
+pub(crate) fn out_of_memory() -> io::Error {
     io::Error::from(io::ErrorKind::OutOfMemory)
 }
 
-/// Random values of a list, dense or sparse by how far random numbers are shifted to be its steps.
-pub fn time_get(alloc: Global, clock: &impl Clock, count: u32, shift: u32) -> io::Result<Timed>
+// Random values of a list, dense or sparse by how far random numbers are shifted to be its steps.
+pub(crate) fn time_get(
+    alloc: Global,
+    clock: &impl Clock,
+    count: u32,
+    shift: u32,
+) -> io::Result<Timed>
     requires { shift < 64 }
 {
     let values = rising(alloc, count, shift)?;
@@ -40,6 +47,7 @@ pub fn time_get(alloc: Global, clock: &impl Clock, count: u32, shift: u32) -> io
     Ok(Timed { nanos, checksum })
 }
 
+// The sum of random values, modulo 2^64.
 fn sum_of_values(list: &EliasFano, count: u32) -> u64 {
     let mut numbers = Numbers { state: 2 };
     let mut sum = 0u64;
@@ -51,12 +59,12 @@ fn sum_of_values(list: &EliasFano, count: u32) -> u64 {
 }
 
 // A random number below a bound, which is below 2^32.
-pub fn place_below(numbers: &mut Numbers, bound: u32) -> u64 {
+pub(crate) fn place_below(numbers: &mut Numbers, bound: u32) -> u64 {
     ((numbers.next() >> 32).wrapping_mul(u64::from(bound))) >> 32
 }
 
-/// Random ones of random bits, half of which are ones.
-pub fn time_select(alloc: Global, clock: &impl Clock, count: u32) -> io::Result<Timed> {
+// Random ones of random bits, half of which are ones.
+pub(crate) fn time_select(alloc: Global, clock: &impl Clock, count: u32) -> io::Result<Timed> {
     let selector = match random_bits(alloc, count) {
         Ok(bits) => match Selector::new(alloc, bits) {
             Ok(selector) => selector,
@@ -87,6 +95,7 @@ fn random_bits(alloc: Global, count: u32) -> Result<BitVec, bit_vector::NoMemory
     }
 }
 
+// The sum of the places of random ones, modulo 2^64.
 fn sum_of_places(selector: &Selector, count: u32) -> u64 {
     let mut numbers = Numbers { state: 2 };
     let mut sum = 0u64;

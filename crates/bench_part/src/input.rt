@@ -4,7 +4,8 @@ use bucket_map::Record;
 use murmur64::{HashPair, hash_pair};
 use std::alloc::{AllocError, Global};
 
-pub const KEY_LEN: usize = 16;
+// The bytes of a key.
+pub(crate) const KEY_LEN: usize = 16;
 
 // A generator of numbers: SplitMix64 (Steele, Lea and Flood, OOPSLA 2014).
 #[derive(Drop)]
@@ -21,7 +22,8 @@ impl Numbers {
     }
 }
 
-pub fn records(alloc: Global, count: u32) -> Result<Vec<Record>, AllocError> {
+// So many records of random pairs.
+pub(crate) fn records(alloc: Global, count: u32) -> Result<Vec<Record>, AllocError> {
     let mut numbers = Numbers { state: 1 };
     let mut records = Vec::with_capacity(alloc, count as usize)?;
     for ordinal in 0..count {
@@ -37,7 +39,7 @@ pub fn records(alloc: Global, count: u32) -> Result<Vec<Record>, AllocError> {
 }
 
 // The bytes of so many keys, one after another.
-pub fn keys(alloc: Global, count: u32) -> Result<Vec<u8>, AllocError> {
+pub(crate) fn keys(alloc: Global, count: u32) -> Result<Vec<u8>, AllocError> {
     let mut numbers = Numbers { state: 1 };
     let mut text = Vec::new(alloc);
     for _ in 0..count {
@@ -48,7 +50,12 @@ pub fn keys(alloc: Global, count: u32) -> Result<Vec<u8>, AllocError> {
     Ok(text)
 }
 
-pub fn records_of_keys(alloc: Global, text: &[u8], seed: u64) -> Result<Vec<Record>, AllocError> {
+// The records of keys at a seed, whose ordinals count for nothing here.
+pub(crate) fn records_of_keys(
+    alloc: Global,
+    text: &[u8],
+    seed: u64,
+) -> Result<Vec<Record>, AllocError> {
     let mut records = Vec::new(alloc);
     for key in text.chunks_exact(KEY_LEN) {
         let HashPair { a, b } = hash_pair(key, seed);

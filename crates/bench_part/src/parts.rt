@@ -12,24 +12,28 @@ use std::thread::Threads;
 use std::time::Instant;
 use turn_search::FreeGate;
 
+// The seed of all hashes.
 const SEED: u64 = 1;
 
+// How many pilots may be tried for a bucket: as many as without words.
 const PILOTS: u64 = 16_777_216;
 
+// The shape that a list has without words.
 const SHAPE: Shape = Shape {
     alpha: 98,
     c: 700,
     map: Map::Skewed,
 };
 
+// How long a part took, and a checksum of its answers.
 #[derive(Drop)]
-pub struct Timed {
-    pub nanos: u128,
-    pub checksum: u64,
+pub(crate) struct Timed {
+    pub(crate) nanos: u128,
+    pub(crate) checksum: u64,
 }
 
 // Nothing but the records, for what they take of memory.
-pub fn time_records(alloc: Global, count: u32) -> io::Result<Timed> {
+pub(crate) fn time_records(alloc: Global, count: u32) -> io::Result<Timed> {
     let records = records(alloc, count)?;
     Ok(Timed {
         nanos: 0,
@@ -37,7 +41,8 @@ pub fn time_records(alloc: Global, count: u32) -> io::Result<Timed> {
     })
 }
 
-pub fn time_buckets(clock: &impl Clock, alloc: Global, count: u32) -> io::Result<Timed> {
+// The buckets of random records, in the order of a search.
+pub(crate) fn time_buckets(clock: &impl Clock, alloc: Global, count: u32) -> io::Result<Timed> {
     let records = records(alloc, count)?;
     let start = Instant::now(clock)?;
     let buckets = buckets_of(alloc, &records)?;
@@ -49,6 +54,7 @@ pub fn time_buckets(clock: &impl Clock, alloc: Global, count: u32) -> io::Result
     Ok(Timed { nanos, checksum })
 }
 
+// The buckets of some records, if there are as many as a list may have.
 fn buckets_of(alloc: Global, records: &[Record]) -> io::Result<Buckets> {
     let n = records.len() as u64;
     if n == 0 || n > MAX_KEYS {
@@ -60,7 +66,8 @@ fn buckets_of(alloc: Global, records: &[Record]) -> io::Result<Buckets> {
     }
 }
 
-pub fn time_build<R: Clock + Threads + Wait + Sync>(
+// The build of a partition of random records.
+pub(crate) fn time_build<R: Clock + Threads + Wait + Sync>(
     rt: &R,
     alloc: Global,
     count: u32,
@@ -75,6 +82,7 @@ pub fn time_build<R: Clock + Threads + Wait + Sync>(
     })
 }
 
+// The partition of some records, searched by one worker.
 fn part_of<R: Threads + Wait + Sync>(
     rt: &R,
     alloc: Global,
@@ -100,7 +108,7 @@ fn part_of<R: Threads + Wait + Sync>(
 }
 
 // Each key of the list is hashed and its value taken; no key has a value near that of the next one.
-pub fn time_lookups<R: Clock + Threads + Wait + Sync>(
+pub(crate) fn time_lookups<R: Clock + Threads + Wait + Sync>(
     rt: &R,
     alloc: Global,
     count: u32,
@@ -113,6 +121,7 @@ pub fn time_lookups<R: Clock + Threads + Wait + Sync>(
     Ok(Timed { nanos, checksum })
 }
 
+// A checksum of the values of keys.
 fn sum_of_values(part: &Part, text: &[u8]) -> u64 {
     let mut sum = 0u64;
     for key in text.chunks_exact(KEY_LEN) {
@@ -123,6 +132,7 @@ fn sum_of_values(part: &Part, text: &[u8]) -> u64 {
     sum
 }
 
+// A checksum of the entries of a free list.
 fn sum_of_entries(part: &Part) -> u64 {
     let mut sum = 0u64;
     for i in 0..part.free.len() {
@@ -133,6 +143,7 @@ fn sum_of_entries(part: &Part) -> u64 {
     sum
 }
 
+// A checksum that goes on with some numbers.
 fn sum_with(sum: u64, numbers: &[u64]) -> u64 {
     let mut sum = sum;
     for number in numbers {

@@ -18,7 +18,8 @@ impl Numbers {
     }
 }
 
-pub fn bytes(alloc: Global, count: u32) -> Result<Vec<u8>, AllocError> {
+// So many random bytes.
+pub(crate) fn bytes(alloc: Global, count: u32) -> Result<Vec<u8>, AllocError> {
     let mut numbers = Numbers { state: 1 };
     let mut bytes = Vec::with_capacity(alloc, count as usize)?;
     for _ in 0..count {
@@ -27,7 +28,8 @@ pub fn bytes(alloc: Global, count: u32) -> Result<Vec<u8>, AllocError> {
     Ok(bytes)
 }
 
-pub fn records(alloc: Global, count: u32) -> Result<Vec<Record>, AllocError> {
+// So many records of random pairs.
+pub(crate) fn records(alloc: Global, count: u32) -> Result<Vec<Record>, AllocError> {
     let mut numbers = Numbers { state: 1 };
     let mut records = Vec::with_capacity(alloc, count as usize)?;
     for ordinal in 0..count {
@@ -43,7 +45,7 @@ pub fn records(alloc: Global, count: u32) -> Result<Vec<Record>, AllocError> {
 }
 
 // Records of which the last has the pair of the first.
-pub fn records_with_a_repeat(alloc: Global, count: u32) -> Result<Vec<Record>, AllocError> {
+pub(crate) fn records_with_a_repeat(alloc: Global, count: u32) -> Result<Vec<Record>, AllocError> {
     let mut records = records(alloc, count)?;
     if records.len() > 1 {
         let last = records.len() - 1;
@@ -58,7 +60,7 @@ pub fn records_with_a_repeat(alloc: Global, count: u32) -> Result<Vec<Record>, A
 }
 
 // Records of which the first so many are of one bucket.
-pub fn records_of_one_bucket(
+pub(crate) fn records_of_one_bucket(
     alloc: Global,
     members: u32,
     count: u32,
@@ -71,7 +73,7 @@ pub fn records_of_one_bucket(
 }
 
 // Second hashes of the keys of one bucket.
-pub fn members(alloc: Global, count: u32) -> Result<Vec<u64>, AllocError> {
+pub(crate) fn members(alloc: Global, count: u32) -> Result<Vec<u64>, AllocError> {
     let mut numbers = Numbers { state: 1 };
     let mut members = Vec::with_capacity(alloc, count as usize)?;
     for _ in 0..count {

@@ -3,6 +3,7 @@
 
 mod input;
 mod parts;
+mod plans;
 mod searches;
 
 use crate::parts::{Timed, time_buckets, time_murmur64, time_pairs};

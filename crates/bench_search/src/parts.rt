@@ -8,17 +8,21 @@ use std::io;
 use std::rt::Clock;
 use std::time::Instant;
 
+// The number of buckets, in hundredths of the records over their logarithm.
 const BUCKETS: u32 = 700;
 
+// The bytes of a key.
 const KEY_LEN: usize = 16;
 
+// How long a part took, and a checksum of its answers.
 #[derive(Drop)]
-pub struct Timed {
-    pub nanos: u128,
-    pub checksum: u64,
+pub(crate) struct Timed {
+    pub(crate) nanos: u128,
+    pub(crate) checksum: u64,
 }
 
-pub fn time_murmur64(alloc: Global, clock: &impl Clock, count: u32) -> io::Result<Timed> {
+// The hash of a text of so many bytes.
+pub(crate) fn time_murmur64(alloc: Global, clock: &impl Clock, count: u32) -> io::Result<Timed> {
     let text = bytes(alloc, count)?;
     let start = Instant::now(clock)?;
     let checksum = murmur64(&text, 1);
@@ -26,7 +30,8 @@ pub fn time_murmur64(alloc: Global, clock: &impl Clock, count: u32) -> io::Resul
     Ok(Timed { nanos, checksum })
 }
 
-pub fn time_pairs(alloc: Global, clock: &impl Clock, count: u32) -> io::Result<Timed> {
+// The pairs of hashes of the keys in a text of so many bytes.
+pub(crate) fn time_pairs(alloc: Global, clock: &impl Clock, count: u32) -> io::Result<Timed> {
     let text = bytes(alloc, count)?;
     let start = Instant::now(clock)?;
     let checksum = pairs_of(&text);
@@ -44,7 +49,8 @@ fn pairs_of(text: &[u8]) -> u64 {
     checksum
 }
 
-pub fn time_buckets(alloc: Global, clock: &impl Clock, count: u32) -> io::Result<Timed> {
+// The buckets of random records, in the order of a search.
+pub(crate) fn time_buckets(alloc: Global, clock: &impl Clock, count: u32) -> io::Result<Timed> {
     let records = records(alloc, count)?;
     let start = Instant::now(clock)?;
     let buckets = buckets_of(alloc, &records)?;
@@ -55,6 +61,7 @@ pub fn time_buckets(alloc: Global, clock: &impl Clock, count: u32) -> io::Result
     })
 }
 
+// The buckets of some records, if there are as many as a list may have.
 fn buckets_of(alloc: Global, records: &[Record]) -> io::Result<Buckets> {
     let n = records.len() as u64;
     if n == 0 || n > MAX_KEYS {
@@ -66,14 +73,17 @@ fn buckets_of(alloc: Global, records: &[Record]) -> io::Result<Buckets> {
     }
 }
 
-pub fn out_of_memory() -> io::Error {
+// The error where memory ran out.
+pub(crate) fn out_of_memory() -> io::Error {
     io::Error::from(io::ErrorKind::OutOfMemory)
 }
 
-pub fn invalid_input() -> io::Error {
+// The error of a name or a number that no part takes.
+pub(crate) fn invalid_input() -> io::Error {
     io::Error::from(io::ErrorKind::InvalidInput)
 }
 
+// A checksum of the buckets by rank, with their members.
 fn checksum_of(buckets: &Buckets) -> u64 {
     let mut checksum = 0u64;
     for rank in 0..buckets.len() {

@@ -5,10 +5,8 @@ ghost use Rattle.pthash.specs.declared.TheConstants.{MAX_POSITIONS};
 
 use crate::input::{members, records, records_of_one_bucket, records_with_a_repeat};
 use crate::parts::{Timed, invalid_input, out_of_memory};
-use bucket_map::{
-    MAX_KEYS, MAX_PILOTS, Map, NoMemory, Record, Shape, bucket_count, ordered_buckets, partitioned,
-    table_size,
-};
+use crate::plans::{PILOTS, SEED, plan_of, plans_of_partitions, shape_of, usual};
+use bucket_map::{MAX_KEYS, MAX_PILOTS, NoMemory, Record, Shape};
 use pilot_search::{Occupancy, Placed, Plan, Scratch, Stuck, place, place_one, place_rounds};
 use std::alloc::Global;
 use std::io;
@@ -17,12 +15,6 @@ use std::sync::Wait;
 use std::thread::Threads;
 use std::time::Instant;
 use turn_search::{FreeGate, search_turns};
-
-const SEED: u64 = 1;
-
-const PILOTS: u64 = 16_777_216;
-
-const PARTITIONS: u32 = 64;
 
 // So many small lists are searched one after another.
 const LISTS: u32 = 1000;
@@ -37,7 +29,8 @@ const AMONG: u32 = 1_000_000;
 
 const AMONG_PILOTS: u64 = 10_000;
 
-pub fn time_search<R: Clock + Threads + Wait + Sync>(
+// How long a search takes that a name stands for, with its input beside.
+pub(crate) fn time_search<R: Clock + Threads + Wait + Sync>(
     rt: &R,
     alloc: Global,
     part: &str,
@@ -81,58 +74,6 @@ fn time_whole<R: Clock + Threads + Wait + Sync>(
     }
 }
 
-// Another name is that of the usual shape.
-fn shape_of(name: &str) -> Shape {
-    match name {
-        "lean" => lean(),
-        "tight" => tight(),
-        _ => usual(),
-    }
-}
-
-fn usual() -> Shape {
-    Shape {
-        alpha: 98,
-        c: 700,
-        map: Map::Skewed,
-    }
-}
-
-fn lean() -> Shape {
-    Shape {
-        alpha: 99,
-        c: 300,
-        map: Map::Skewed,
-    }
-}
-
-fn tight() -> Shape {
-    Shape {
-        alpha: 99,
-        c: 200,
-        map: Map::Skewed,
-    }
-}
-
-fn plan_of(alloc: Global, records: &[Record], shape: Shape, limit: u64) -> io::Result<Plan>
-    requires some { 1 ≤ limit }
-    requires bound { limit ≤ MAX_PILOTS }
-{
-    let n = records.len() as u64;
-    if n == 0 || n > MAX_KEYS {
-        return Err(invalid_input());
-    }
-    match ordered_buckets(alloc, records, shape.map, bucket_count(n, shape.c)) {
-        Ok(buckets) => Ok(Plan {
-            seed: SEED,
-            size: table_size(n, shape.alpha),
-            limit,
-            buckets,
-        }),
-        Err(_) => Err(out_of_memory()),
-    }
-}
-
 // The sum of the pilots, or the rank of the bucket that has none.
 fn sum_of(answer: &Result<Placed, Stuck>) -> u64 {
     match answer {
@@ -147,6 +88,7 @@ fn sum_of(answer: &Result<Placed, Stuck>) -> u64 {
     }
 }
 
+// By one worker.
 fn time_place(
     clock: &impl Clock,
     alloc: Global,
@@ -170,6 +112,7 @@ fn time_place(
     }
 }
 
+// In rounds of so many workers.
 fn time_rounds<R: Clock + Threads + Sync>(
     rt: &R,
     alloc: Global,
@@ -223,18 +166,6 @@ fn time_partitions(clock: &impl Clock, alloc: Global, records: &[Record]) -> io:
     time_plans(clock, alloc, &plans)
 }
 
-fn plans_of_partitions(alloc: Global, records: &[Record]) -> io::Result<Vec<Plan>> {
-    let cut = match partitioned(alloc, records, PARTITIONS) {
-        Ok(cut) => cut,
-        Err(_) => return Err(out_of_memory()),
-    };
-    let mut plans = Vec::new(alloc);
-    for partition in 0..cut.len() {
-        plans.push(plan_of(alloc, cut.records(partition), usual(), PILOTS)?)?;
-    }
-    Ok(plans)
-}
-
 // One small list after another, each of other records, so that no branch is known from the list before.
 fn time_lists(clock: &impl Clock, alloc: Global, records: &[Record]) -> io::Result<Timed> {
     let len = records.len() / LISTS as usize;
@@ -248,6 +179,7 @@ fn time_lists(clock: &impl Clock, alloc: Global, records: &[Record]) -> io::Resu
     time_plans(clock, alloc, &plans)
 }
 
+// One plan after another.
 fn time_plans(clock: &impl Clock, alloc: Global, plans: &[Plan]) -> io::Result<Timed> {
     let start = Instant::now(clock)?;
     let checksum = place_all(alloc, plans)?;
@@ -255,6 +187,7 @@ fn time_plans(clock: &impl Clock, alloc: Global, plans: &[Plan]) -> io::Result<T
     Ok(Timed { nanos, checksum })
 }
 
+// A checksum of the searches of all plans.
 fn place_all(alloc: Global, plans: &[Plan]) -> io::Result<u64> {
     let mut sum = 0;
     for plan in plans {
@@ -285,6 +218,7 @@ fn time_large(clock: &impl Clock, alloc: Global, members: &[u64]) -> io::Result<
     })
 }
 
+// An empty table and room for one bucket of so many members.
 fn room_for(alloc: Global, members: u64) -> Result<(Occupancy, Scratch), NoMemory>
     requires { members ≤ MAX_POSITIONS }
     ensures size { IfOk result (λ room. room.0.size ≡ LARGE_SIZE) }
