@@ -24,7 +24,7 @@ pub(crate) const DEFAULT_SEARCH: Search = Search::Turns;
 
 // A setting.
 #[derive(Clone, Copy, Debug, PartialEq, Eq)]
-pub enum Setting {
+pub(crate) enum Setting {
     Seeds,
     Alpha,
     C,
@@ -60,7 +60,7 @@ pub(crate) fn setting_named(name: &str) -> Option<Setting>
 
 // The values of the settings that words give.
 #[derive(Drop)]
-pub struct Chosen {
+pub(crate) struct Chosen {
     seeds: Option<Vec<u64>>,
     alpha: Option<u32>,
     c: Option<u32>,
@@ -76,7 +76,8 @@ pub struct Chosen {
 
 // Puts a value where none is yet.
 fn set<T: Drop>(slot: &mut Option<T>, value: Result<T, Refusal>) -> Result<(), Refusal>
-    ensures ok { IsNone slot.old → IfOk value (λ v. IsOk result × (slot.new ≡ Some v)) }
+    ensures ok { IsNone slot.old → IfOk value (λ _. IsOk result) }
+    ensures value { IsNone slot.old → IfOk value (λ v. slot.new ≡ Some v) }
     ensures refused { IsNone slot.old → IfErr value (λ e. result ≡ Err e) }
     ensures repeated { IsSome slot.old → result ≡ Err (Refusal.Kind REPEATED) }
 {
@@ -166,38 +167,25 @@ impl Chosen {
         requires { IsInRange (options_of (chosen_values self)) }
         ensures { IfOk result (λ o. options_data o ≡ options_of (chosen_values self)) }
     {
-        let Self {
-            seeds,
-            alpha,
-            c,
-            map,
-            parts,
-            workers,
-            search,
-            enc,
-            pilots,
-            blocks,
-            limit,
-        } = self;
-        let seeds = seeds_or_default(alloc, seeds)?;
+        let seeds = seeds_or_default(alloc, self.seeds)?;
         Ok(Options {
             settings: Settings {
                 seeds,
                 shape: Shape {
-                    alpha: alpha.unwrap_or(DEFAULT_ALPHA),
-                    c: c.unwrap_or(DEFAULT_C),
-                    map: map.unwrap_or(DEFAULT_MAP),
+                    alpha: self.alpha.unwrap_or(DEFAULT_ALPHA),
+                    c: self.c.unwrap_or(DEFAULT_C),
+                    map: self.map.unwrap_or(DEFAULT_MAP),
                 },
-                parts: parts.unwrap_or(DEFAULT_PARTITIONS),
-                limit: pilots.unwrap_or(DEFAULT_PILOTS),
+                parts: self.parts.unwrap_or(DEFAULT_PARTITIONS),
+                limit: self.pilots.unwrap_or(DEFAULT_PILOTS),
                 how: how_to_search(
-                    search.unwrap_or(DEFAULT_SEARCH),
-                    workers.unwrap_or(DEFAULT_WORKERS),
+                    self.search.unwrap_or(DEFAULT_SEARCH),
+                    self.workers.unwrap_or(DEFAULT_WORKERS),
                 ),
             },
-            enc: enc.unwrap_or(DEFAULT_ENCODING),
-            blocks: blocks.unwrap_or(DEFAULT_BLOCKS),
-            most: limit.unwrap_or(MAX_KEYS),
+            enc: self.enc.unwrap_or(DEFAULT_ENCODING),
+            blocks: self.blocks.unwrap_or(DEFAULT_BLOCKS),
+            most: self.limit.unwrap_or(MAX_KEYS),
         })
     }
 }

@@ -29,7 +29,7 @@ impl From<AllocError> for WordsErr {
 
 // Why a word is refused, whichever word it is.
 #[derive(Clone, Copy)]
-pub enum Refusal {
+pub(crate) enum Refusal {
     Kind(u8),
     NoMemory,
 }

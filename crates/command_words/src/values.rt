@@ -9,7 +9,7 @@ use settings::{Code, Encoding, Map};
 
 // Who leads a search with several workers.
 #[derive(Clone, Copy, Debug, PartialEq, Eq)]
-pub enum Search {
+pub(crate) enum Search {
     Turns,
     Rounds,
 }

@@ -56,7 +56,7 @@ pub(crate) struct TwoNames {
 
 // The name of a command.
 #[derive(Clone, Copy, Debug, PartialEq, Eq)]
-pub enum Name {
+pub(crate) enum Name {
     Pilots,
     Build,
     Query,

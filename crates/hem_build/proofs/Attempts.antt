@@ -1,6 +1,6 @@
 -- An attempt, from its partitions.
-use Rattle.std.proofs.Common.{◌≡◌, ℕ, ◌<◌, ◌≤◌, Bool, List, [], length, Option, Some, None, Result, Ok, Err, sym, ap, ◌∙◌, arith}
-use Rattle.std.specs.Prelude.{filter, slice_index_or, ◌==◌}
+use Rattle.std.proofs.Common.{◌≡◌, ℕ, ◌<◌, ◌≤◌, Bool, List, [], length, Option, Some, None, Err, sym, ap, ◌∙◌, arith}
+use Rattle.std.specs.Prelude.{slice_index_or, ◌==◌}
 use Rattle.std.proofs.lemmas.List.Sums.{length-filter, count_by-le-length}
 use Rattle.pthash.specs.declared.Record.{Record}
 use Rattle.pthash.specs.declared.TheConstants.{MAX_KEYS}
@@ -9,10 +9,9 @@ use Rattle.pthash.specs.Partitions.{partitions_of}
 use Rattle.pthash.specs.Records.{records_of}
 use Rattle.pthash.specs.RecordLaws.{length-records_of}
 use Rattle.pthash.specs.Sizes.{partition_of}
-use Rattle.build_outcome.specs.Attempt.{Rules, Attempt, clashed, stuck, attempt_of, unless_clash}
+use Rattle.build_outcome.specs.Attempt.{Rules, clashed, stuck, attempt_of, unless_clash}
 use Rattle.build_outcome.specs.AttemptLaws.{parts_of, attempt_of-stuck}
 use Rattle.build_outcome.specs.Clash.{clash_of}
-use Rattle.build_outcome.specs.Index.{PartData}
 use Rattle.hem_build.specs.Starts.{FewKeys}
 
 -- no partition has more records than the list

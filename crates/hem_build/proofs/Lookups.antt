@@ -1,5 +1,5 @@
 -- The value of a key, from its partition.
-use Rattle.std.proofs.Common.{◌≡◌, ℕ, ◌+◌, ◌<◌, ◌≤◌, List, [], length, take, Option, Some, None, refl, sym, ap, ◌∙◌, subst, arith}
+use Rattle.std.proofs.Common.{◌≡◌, ℕ, ◌+◌, ◌<◌, List, [], length, take, Option, Some, None, sym, ap, ◌∙◌, arith}
 use Rattle.std.specs.Prelude.{slice_index, slice_index_or, option_map}
 use Rattle.std.proofs.lemmas.List.{get_or_default}
 use Rattle.pthash.specs.Hash.{first_hash, second_hash}

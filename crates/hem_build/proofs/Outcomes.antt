@@ -1,6 +1,6 @@
 -- The walk over the seeds, one attempt after another.
 use Rattle.std.proofs.Common.{◌≡◌, ℕ, suc, ◌+◌, ◌<◌, ◌≤◌, Bool, true, false, cond, List, [], ◌∷◌, ◌++◌, length, drop, get_or}
-use Rattle.std.proofs.Common.{refl, sym, ap, ◌∙◌, arith}
+use Rattle.std.proofs.Common.{sym, ap, ◌∙◌, arith}
 use Rattle.std.specs.Prelude.{bytes_eq, Some}
 use Rattle.std.proofs.lemmas.List.{drop_all}
 use Rattle.std.proofs.Math.Seq.{drop-cons}
@@ -11,7 +11,7 @@ use Rattle.build_outcome.specs.ClashLaws.{IsEarlierIn, clash_of-earlier}
 use Rattle.build_outcome.specs.Index.{PartData, KeyMarkData, IndexData}
 use Rattle.build_outcome.specs.Attempt.{Rules, Attempt, clashed, stuck, complete, attempt_of}
 use Rattle.build_outcome.specs.Mark.{mark_of}
-use Rattle.build_outcome.specs.Outcome.{Outcome, repeated, exhausted, built, index_of, after_attempt, outcome_from}
+use Rattle.build_outcome.specs.Outcome.{repeated, exhausted, built, after_attempt, outcome_from}
 use Rattle.build_outcome.specs.OutcomeLaws.{attempt_of-clashed}
 
 -- the keys of a clash are in the list

@@ -1,6 +1,6 @@
 -- The records of a list of keys, share by share.
-use Rattle.std.proofs.Common.{◌≡◌, ℕ, zero, suc, ◌+◌, ◌<◌, ◌≤◌, List, [], ◌∷◌, length, get_or, set}
-use Rattle.std.proofs.Common.{refl, sym, ap, ◌∙◌, arith, ⊎_elim}
+use Rattle.std.proofs.Common.{◌≡◌, ℕ, zero, suc, ◌+◌, ◌<◌, List, [], ◌∷◌, length, get_or, set}
+use Rattle.std.proofs.Common.{sym, ap, ◌∙◌, arith, ⊎_elim}
 use Rattle.std.specs.Prelude.{slice_index_or, slice_get, Some}
 use Rattle.std.proofs.lemmas.Bool.{cases_eq}
 use Rattle.std.proofs.lemmas.List.{length-set, get_or-set_same, get_or-set_other, ext_get_or}
@@ -9,7 +9,6 @@ use Rattle.pthash.specs.Hash.{first_hash, second_hash}
 use Rattle.pthash.specs.RecordLaws.{record_at_place, length-records_of, get_or-records_of}
 use Rattle.pthash.specs.Records.{records_of}
 use Rattle.build_outcome.specs.Clash.{key_at}
-use Rattle.hem_build.specs.Shares.{AreRecordsFrom}
 
 -- a key that is read is the one at its place
 pub key_at_get : (keys : List (List ℕ)) (place : ℕ) (key : List ℕ) → slice_get keys place ≡ Some key → key_at keys place ≡ key

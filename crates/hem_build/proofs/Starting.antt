@@ -1,12 +1,12 @@
 -- Where the partitions of an index begin.
-use Rattle.std.proofs.Common.{◌≡◌, ℕ, zero, suc, ◌+◌, ◌<◌, ◌≤◌, List, [], ◌∷◌, ◌++◌, length, take, get_or}
-use Rattle.std.proofs.Common.{refl, sym, ap, ◌∙◌, arith, ⊎_elim}
-use Rattle.std.specs.Prelude.{slice_index, slice_index_or}
+use Rattle.std.proofs.Common.{◌≡◌, ℕ, ◌+◌, ◌<◌, ◌≤◌, List, [], ◌∷◌, ◌++◌, length, take, get_or}
+use Rattle.std.proofs.Common.{sym, ap, ◌∙◌, arith, ⊎_elim}
+use Rattle.std.specs.Prelude.{slice_index}
 use Rattle.std.proofs.lemmas.Bool.{cases_lt}
 use Rattle.std.proofs.lemmas.List.{length-append, get_or_append_left, get_or-append-add}
 use Rattle.std.proofs.lemmas.List.Sums.{sum_by_more}
 use Rattle.build_outcome.specs.Index.{PartData}
-use Rattle.build_outcome.specs.Values.{part_at, key_count}
+use Rattle.build_outcome.specs.Values.{key_count}
 use Rattle.hem_build.specs.Starts.{AreStarts}
 
 -- the first partitions have their starts, and the total is what they have

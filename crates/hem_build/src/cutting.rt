@@ -121,8 +121,9 @@ fn fill_slots<R: Threads + Sync>(
         slots,
         workers as usize,
         &|number: usize, slot: &mut Result<MarkedPiece, NoMemory>|
-            requires { (length keys.now ≤ MAX_KEYS) × (1 ≤ parts)
-                × (number * PIECE_KEYS < length keys.now) }
+            requires few { length keys.now ≤ MAX_KEYS }
+            requires some_partition { 1 ≤ parts }
+            requires within { number * PIECE_KEYS < length keys.now }
             ensures { IfOk slot.exit.now
                 (IsPieceFrom keys.entry.now seed parts (number * PIECE_KEYS)) }
         {

@@ -57,8 +57,8 @@ pub(crate) fn build_partitions<R: Threads + Wait + Sync, G: Gate>(
         alloc,
         groups as usize,
         &|group: usize| -> Result<Result<Vec<Part>, StuckPart>, NoMemory>
-            requires { IsSync R.row
-                × IsGroupOf partitions.now starts.now group settings.now.how how }
+            requires sync { IsSync R.row }
+            requires group { IsGroupOf partitions.now starts.now group settings.now.how how }
             ensures { IfOk result (λ answer. group_data answer
                 ≡ parts_between (rules_of (settings_data settings.entry.now)) seed
                 partitions.entry.now (slice_index starts.entry.now group)
@@ -141,10 +141,9 @@ fn build_group<R: Threads + Wait + Sync, G: Gate>(
         )? {
             Ok(part) => built.push(part)?,
             Err(stuck) => {
-                return Ok(Err(StuckPart {
-                    part: number as u32,
-                    bucket: stuck.bucket,
-                }));
+                let part = number as u32;
+                let bucket = stuck.bucket;
+                return Ok(Err(StuckPart { part, bucket }));
             }
         }
     }

@@ -19,8 +19,9 @@ use Rattle.key_check.specs.declared.walk.Walk.{Walk}
 use Rattle.key_check.specs.Checked.{first_with, fault_of_value, after_all, checked_from, checked}
 use Rattle.key_check.specs.Walks.{IsFor, HasWalked}
 use Rattle.key_check.specs.Meaning.{IsGood}
-use Rattle.key_check.proofs.Walking.{HasPassed, HasPassed-none, HasPassed-more, passed_to, checked-fault, lines-le}
-use Rattle.key_check.proofs.Walking.{one_to_one-none, one_to_one-more, good_end}
+use Rattle.key_check.proofs.Passing.{HasPassed, HasPassed-none, HasPassed-more, passed_to, checked-fault}
+use Rattle.key_check.proofs.Passing.{one_to_one-none, one_to_one-more, good_end}
+use Rattle.key_check.proofs.Walking.{lines-le}
 
 -- the lines so far: they were read, were walked, were no end of the check, and have values of their own
 pub record CheckSoFar (x : IndexData) (name : List ℕ) (told : Option FileMap) (r : Reader) (walk : Walk) : Type 0 where

@@ -1,6 +1,7 @@
 mod Commands
 mod Endings
 mod Faults
+mod Leaving
 mod Lines
 mod Listed
 mod Repeats

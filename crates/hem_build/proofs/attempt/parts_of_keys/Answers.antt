@@ -1,4 +1,4 @@
-use Rattle.std.proofs.Common.{List, length, refl, arith}
+use Rattle.std.proofs.Common.{refl, arith}
 use Rattle.pthash.specs.Records.{records_of}
 use Rattle.hem_build.proofs.Attempts.{partitions_of_keys}
 use Rattle.hem_build.specs.Starts.{FewKeys}

@@ -1,8 +1,8 @@
-use Rattle.std.proofs.Common.{◌≡◌, ◌+◌, ◌<◌, ◌≤◌, length, sym, arith}
+use Rattle.std.proofs.Common.{◌+◌, ◌≤◌, length, sym, arith}
 use Rattle.std.specs.Prelude.{slice_index}
 use Rattle.settings.specs.Settings.{settings_data}
 use Rattle.hem_build.specs.Rules.{rules_of}
-use Rattle.hem_build.proofs.Grouping.{stuck_there, built_more, IsBuiltTo}
+use Rattle.hem_build.proofs.Grouping.{stuck_there, built_more}
 use Rattle.hem_build.proofs.groups.build_group.Goals as goal
 
 pub returns-in-Err : goal.returns-in-Err

@@ -1,4 +1,4 @@
-use Rattle.std.proofs.Common.{◌≡◌, ℕ, ◌+◌, length, ap, arith}
+use Rattle.std.proofs.Common.{◌≡◌, length, ap, arith}
 use Rattle.settings.specs.Settings.{settings_data}
 use Rattle.hem_build.specs.Rules.{rules_of}
 use Rattle.hem_build.proofs.Grouping.{group_answers_all}

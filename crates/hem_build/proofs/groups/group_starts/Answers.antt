@@ -1,4 +1,4 @@
-use Rattle.std.proofs.Common.{◌≡◌, ℕ, length, sym, subst, arith}
+use Rattle.std.proofs.Common.{◌≡◌, length, sym, subst, arith}
 use Rattle.hem_build.proofs.Grouping.{AreGroupsTo, groups_done}
 use Rattle.hem_build.specs.Starts.{AreGroupStarts}
 use Rattle.hem_build.proofs.groups.group_starts.Goals as goal

@@ -1,4 +1,4 @@
-use Rattle.std.proofs.Common.{◌≡◌, ℕ, ◌+◌, length, sym, ap, ◌∙◌, arith}
+use Rattle.std.proofs.Common.{ℕ, sym, ap, ◌∙◌, arith}
 use Rattle.pthash.specs.RecordLaws.{record_at_place}
 use Rattle.build_outcome.specs.Clash.{key_at}
 use Rattle.hem_build.proofs.RecordShares.{all_hashed}

@@ -1,6 +1,5 @@
 use Rattle.std.proofs.Common.{arith}
 use Rattle.std.proofs.lemmas.Nat.{xor_lt}
-use Rattle.build_outcome.specs.Validity.{IsMark}
 use Rattle.hem_build.proofs.mark.both_marks.Goals as goal
 
 pub invariant_of-result : goal.invariant_of-result

@@ -1,5 +1,4 @@
-use Rattle.std.proofs.Common.{List, [], ◌++◌, take, sym, ap, ◌∙◌, rules, arith}
-use Rattle.std.specs.Prelude.{slice_index_or}
+use Rattle.std.proofs.Common.{List, ◌++◌, take, sym, ap, ◌∙◌, rules, arith}
 use Rattle.pthash.specs.declared.Record.{Record}
 use Rattle.hem_build.proofs.Gathering.{gathered_more}
 use Rattle.hem_build.specs.Gathering.{gathered}

@@ -1,6 +1,6 @@
-use Rattle.std.proofs.Common.{◌≡◌, ◌∙◌, sym, ap, rules, refl, arith, length}
+use Rattle.std.proofs.Common.{rules}
 use Rattle.build_outcome.specs.Index.{IndexData}
-use Rattle.hem_build.proofs.Lookups.{IsPartOf, value_some, value_none}
+use Rattle.hem_build.proofs.Lookups.{value_some, value_none}
 use Rattle.hem_build.proofs.built.Built.lookup.Goals as goal
 
 pub returns-in-Some-clause-value : goal.returns-in-Some-clause-value

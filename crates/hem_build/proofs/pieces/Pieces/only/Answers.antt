@@ -1,4 +1,4 @@
-use Rattle.std.proofs.Common.{length, rules, arith}
+use Rattle.std.proofs.Common.{rules}
 use Rattle.hem_build.proofs.Gathering.{only_piece}
 use Rattle.hem_build.proofs.pieces.Pieces.only.Goals as goal
 
