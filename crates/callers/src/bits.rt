@@ -1,3 +1,4 @@
+// The ones of a selector are counted.
 ghost use Rattle.std.specs.Prelude.{◌≡◌};
 ghost use Rattle.bit_vector.specs.Bits.{ones};
 

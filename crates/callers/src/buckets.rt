@@ -1,3 +1,4 @@
+// The first bucket of some records.
 ghost use Rattle.std.specs.Prelude.{◌≡◌, ◌≤◌, ◌<◌, length, IfOk};
 ghost use Rattle.pthash.specs.Order.{bucket_at, order_of};
 

@@ -1,3 +1,4 @@
+// A list is spelled under a code.
 ghost use Rattle.std.specs.Prelude.{◌≡◌, ◌≤◌, ◌<◌, ◌^◌, ℕ, None, length, slice_index, IfOk};
 ghost use Rattle.pilot_codecs.specs.Spelling.{split_text};
 ghost use Rattle.pilot_codecs.specs.declared.code.Code.TheVariants.{Dict};

@@ -1,3 +1,4 @@
+// Two remainders by one divisor.
 ghost use Rattle.std.specs.Prelude.{◌≡◌, ◌%◌, ◌≤◌};
 
 use divisor::Divisor;

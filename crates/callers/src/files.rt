@@ -1,3 +1,4 @@
+// A small file is read whole.
 ghost use Rattle.std.specs.Prelude.{◌≡◌};
 
 use pth_outside::{Files, read_whole};

@@ -1,3 +1,4 @@
+// The position of a key, from its hash and that of a pilot.
 ghost use Rattle.std.specs.Prelude.{◌≡◌, bit_xor, ◌%◌, ◌<◌};
 ghost use Rattle.pthash.specs.Hash.{second_hash, pilot_hash};
 

@@ -1,3 +1,4 @@
+// The last value of a list that doesn't fall.
 ghost use Rattle.std.specs.Prelude.{◌≡◌, ◌-◌, length};
 ghost use Rattle.std.specs.List.{slice_get};
 

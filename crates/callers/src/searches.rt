@@ -1,3 +1,4 @@
+// A plan is searched by one worker.
 ghost use Rattle.std.specs.Prelude.{IfOk, IfSome};
 ghost use Rattle.pilot_search.specs.Outcome.{IsPlaced};
 

@@ -1,3 +1,4 @@
+// A pool gives the first block of its longest chain away.
 ghost use Rattle.std.specs.Prelude.{◌≡◌, ◌≢◌, ℕ, ◌<◌, ◌≤◌, ◌++◌, length, drop, All, IfOk};
 ghost use Rattle.block_pool.specs.Chains.{chain_at};
 
