@@ -1,7 +1,7 @@
 -- The keys of a file, read line by line.
 use Rattle.std.proofs.Common.{◌≡◌, ◌≤◌, ◌<◌, ◌+◌, ℕ, zero, suc, Bool, false, cond, List, [], ◌∷◌, ◌++◌, Option, Some}
 use Rattle.std.proofs.Common.{None, IsSome, length, take, refl, sym, ap, subst, ◌∙◌, ◌⊎◌, ⊎_elim, inl, inr, drop}
-use Rattle.std.proofs.Common.{arith, length-append, append_assoc}
+use Rattle.std.proofs.Common.{arith, length-append, length-take, append_assoc}
 use Rattle.std.specs.List.{position_from}
 use Rattle.std.specs.Option.{ForSome, IsSomeAnd}
 use Rattle.std.proofs.lemmas.Bool.{false_from_ne_true, false≢true}
@@ -10,7 +10,8 @@ use Rattle.std.proofs.lemmas.List.{take_at}
 use Rattle.pth_outside.specs.declared.TheConstants.{LONGEST_KEY}
 use Rattle.pth_outside.specs.Files.{FileMap, contents, IsThere, OfFile}
 use Rattle.pth_outside.specs.Keys.{keys_of, is_too_long, first_too_long, AreTooMany}
-use Rattle.pth_outside.specs.Reading.{Reader, IsInStep, IsTooLong, HasLongFirst, lines_left}
+use Rattle.pth_outside.specs.Reading.{Reader, IsInStep, IsAt, IsNextLine, IsTooLong, HasLongFirst, advanced, lines_left}
+use Rattle.pth_outside.proofs.ReadingLemmas.{step_advanced, got_line}
 
 -- each of these is short enough for a key
 pub AreShort : List (List ℕ) → Type 0
@@ -158,6 +159,19 @@ so_far_more name line told told' r r' keys keys' so_far same named counted step 
       there = inr (there_now name told told' r keys so_far same there);
     }
 
+-- the line that was found is one line more, once it is passed
+pub so_far_found : (name line : List ℕ) (told told' : Option FileMap) (r mid r' : Reader) (keys keys' : List (List ℕ))
+    (len whole : ℕ) → KeysSoFar name told r keys → told' ≡ told → IsAt r mid → (IsInStep r told' → IsInStep mid told') →
+    IsNextLine mid told' len whole → r' ≡ advanced whole mid → line ≡ take len mid.ahead → keys' ≡ keys ++ line ∷ [] →
+    (r.ahead ≡ [] → IsThere told' r.name) → KeysSoFar name told r' keys'
+so_far_found name line told told' r mid r' keys keys' len whole so_far same at step next passed is pushed there =
+    let short : length (take len mid.ahead) ≤ LONGEST_KEY = omega (arith, next.short, length-take len mid.ahead) in
+    subst (λ (x : Reader). KeysSoFar name told x keys') (sym passed)
+    (so_far_more name (take len mid.ahead) told told' r (advanced whole mid) keys keys' so_far same at.name
+    (ap (λ (n : ℕ). n + 1) at.lines) (λ start. step_advanced mid told' whole next.within (step start))
+    (got_line r mid told' len whole at step next) short
+    (pushed ∙ ap (λ (x : List ℕ). keys ++ x ∷ []) is) there)
+
 -- where the next line is too long
 long_here : (name : List ℕ) (told told' : Option FileMap) (r r' : Reader) (keys : List (List ℕ)) (line : ℕ) →
     KeysSoFar name told r keys → told' ≡ told → IsTooLong r r' told' line →
@@ -192,3 +206,11 @@ many_by_line name line told told' r r' keys most so_far same full got there =
     of_file told name (λ bytes. AreTooMany most (keys_of bytes)) (there_now name told told' r keys so_far same there)
     (many_got name told r keys most line (λ bytes. lines_left r' bytes) so_far full
     (λ bytes is. subst G same got so_far.step bytes (ap (contents told) so_far.named ∙ is)))
+
+-- too many, after a line more was found
+pub many_by_found : (name : List ℕ) (told told' : Option FileMap) (r mid : Reader) (keys : List (List ℕ)) (most len whole : ℕ) →
+    KeysSoFar name told r keys → told' ≡ told → length keys ≡ most → IsAt r mid → (IsInStep r told' → IsInStep mid told') →
+    IsNextLine mid told' len whole → (r.ahead ≡ [] → IsThere told' r.name) → OfFile told name (λ bytes. AreTooMany most (keys_of bytes))
+many_by_found name told told' r mid keys most len whole so_far same full at step next there =
+    many_by_line name (take len mid.ahead) told told' r (advanced whole mid) keys most so_far same full
+    (got_line r mid told' len whole at step next) there

@@ -1,5 +1,5 @@
 -- What several calls on files leave, one after another.
-use Rattle.std.proofs.Common.{◌≡◌, ◌⊎◌, ℕ, Option, refl, sym, subst, ◌∙◌, arith}
+use Rattle.std.proofs.Common.{Option, refl, sym, subst, ◌∙◌, arith}
 use Rattle.std.specs.Prelude.{IsTrue}
 use Rattle.pth_outside.specs.Files.{FileMap, FilesState, LeavesFiles, ReadsFiles}
 

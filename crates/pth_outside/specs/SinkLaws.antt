@@ -1,5 +1,5 @@
 -- What several calls on a sink leave, one after another.
-use Rattle.std.proofs.Common.{◌≡◌, ℕ, arith}
+use Rattle.std.proofs.Common.{arith}
 use Rattle.pth_outside.specs.Sink.{SinkState, LeavesSink}
 
 -- no call at all, which can't have failed

@@ -4,7 +4,7 @@ ghost use Rattle.pth_outside.specs.Files.{ReadsFiles, OfFile, contents};
 ghost use Rattle.pth_outside.specs.Keys.{keys_of, first_too_long, AreTooMany};
 ghost use Rattle.pth_outside.specs.declared.key_file.KeysErr.TheVariants.{NoMemory as OutOfMemory};
 
-use crate::{Files, KeyList, Line, LineErr, LineReader, NoMemory};
+use crate::{Files, KeyList, LineErr, LineReader, NoMemory};
 use std::alloc::Global;
 
 /// Why there is no list of keys.
@@ -49,16 +49,16 @@ pub fn read_keys<F: Files>(
 {
     let mut reader = LineReader::new(alloc, name)?;
     let mut keys = KeyList::new(alloc);
-    let mut line = Vec::new(alloc);
     loop {
         let full = keys.len() == most;
-        match reader.next_line(files, &mut line) {
-            Ok(Line::End) => return Ok(keys),
-            Ok(Line::Got) => {
+        match reader.find_line(files) {
+            Ok(None) => return Ok(keys),
+            Ok(Some(span)) => {
                 if full {
                     return Err(KeysErr::TooMany);
                 }
-                keys.push(line.as_slice())?;
+                keys.push(reader.line(span))?;
+                reader.pass(span);
             }
             Err(LineErr::TooLong { line }) => {
                 if full {

@@ -1,15 +1,15 @@
 // The lines of a file, one after another.
-ghost use Rattle.std.specs.Prelude.{◌≡◌, ◌↔◌, ◌+◌, ◌-◌, ◌<◌, ◌≤◌, ◌^◌, ◌++◌, ℕ, List, [], ◌∷◌, Ok, Err, None, length, take, drop, IfOk, IfSome, IfNone, OnOk, OnErr, IsErrOf, vec_len};
-ghost use Rattle.pth_outside.specs.Files.{ReadsFiles, ForFile, contents, IsThere};
-ghost use Rattle.pth_outside.specs.Keys.{keys_of, HasNoFeed};
-ghost use Rattle.pth_outside.specs.Reading.{IsInStep, HasLeft, lines_left, advanced, IsAt, HasLongFirst, IsStuck, IsFirstFeed, IsNextLine, IsTooLong};
+ghost use Rattle.std.specs.Prelude.{◌≡◌, ◌+◌, ◌<◌, ◌≤◌, ◌^◌, ℕ, [], ◌∷◌, Ok, None, IfOk, IfSome, OnOk, OnErr, IsErrOf, vec_len};
+ghost use Rattle.pth_outside.specs.Files.{ReadsFiles, contents, IsThere};
+ghost use Rattle.pth_outside.specs.Reading.{IsInStep, HasLeft, lines_left, IsAt, IsStuck, IsNextLine, IsTooLong};
 ghost use Rattle.pth_outside.specs.declared.line_reader.LineErr.TheVariants.{NoMemory as OutOfMemory};
 
 use crate::whole::zeros;
-use crate::{FileErr, Files, LINE_FEED, LONGEST_KEY, NoMemory};
-use memchr::memchr;
+use crate::{FileErr, Files, LONGEST_KEY, NoMemory};
 use std::alloc::{AllocError, AllocFailed, Global};
 use std::marker::Model;
+
+mod ahead;
 
 // The longest key with its line feed.
 const BUFFER: usize = 65536;
@@ -77,34 +77,9 @@ impl<T: Drop> From<AllocFailed<T>> for LineErr {
 
 // The bytes of a line, and those that it takes of the file with its feed.
 #[derive(Clone, Copy)]
-struct Span {
-    len: usize,
-    whole: usize,
-}
-
-// Reads behind the first `end` bytes of a buffer.
-fn read_behind<F: Files>(
-    files: &mut F,
-    name: &str,
-    at: u64,
-    buffer: &mut [u8],
-    end: usize,
-) -> Result<usize, FileErr>
-    requires { end ≤ length buffer.old }
-    ensures bound { IfOk result (λ count. end + count ≤ length buffer.old) }
-    ensures front { take end buffer.new ≡ take end buffer.old }
-    ensures read { IfOk result (λ count. ForFile (F.state files.old).told name.now (λ bytes.
-        take (end + count) buffer.new ≡ take end buffer.old ++ take count (drop at bytes))) }
-    ensures nothing { IfOk result (λ count. ForFile (F.state files.old).told name.now (λ bytes.
-        count ≡ 0 → end < length buffer.old → length bytes ≤ at)) }
-    ensures within { IfOk result (λ count. ForFile (F.state files.old).told name.now (λ bytes.
-        count ≤ length bytes - at)) }
-
-    ensures there { OnOk result (IsThere (F.state files.old).told name.now) }
-    ensures leaves { ReadsFiles (F.state files.old) (F.state files.new)
-        (IsErrOf result FileErr.Failed) (contents (F.state files.old).told name.now ≡ None) }
-{
-    files.read_at(name, at, &mut buffer[end..])
+pub(crate) struct Span {
+    pub(crate) len: usize,
+    pub(crate) whole: usize,
 }
 
 impl LineReader {
@@ -125,91 +100,8 @@ impl LineReader {
         })
     }
 
-    // The place of the first line feed ahead.
-    fn feed(&self) -> Option<usize>
-        ensures found { IfSome result (IsFirstFeed self.now.ahead) }
-        ensures none { IfNone result (HasNoFeed self.now.ahead) }
-        ensures bound { length self.now.ahead ≤ BUFFER }
-    {
-        memchr(LINE_FEED, &self.buffer[self.start..self.end])
-    }
-
-    // How many bytes are ahead.
-    fn ahead_len(&self) -> usize
-        ensures len { result ≡ length self.now.ahead }
-        ensures bound { length self.now.ahead ≤ BUFFER }
-    {
-        self.end - self.start
-    }
-
-    // The number of the next line, counted from 1.
-    fn number(&self) -> u64
-        requires { self.now.lines < 2 ^ 40 }
-        ensures { result ≡ self.now.lines + 1 }
-    {
-        self.lines + 1
-    }
-
-    // Gives the next bytes as a line, and goes on behind it.
-    fn give(&mut self, span: Span, into: &mut Vec<u8>) -> Result<(), AllocError>
-        requires within { span.whole ≤ length self.old.ahead }
-        requires begins { span.len ≤ span.whole }
-        requires lines { self.old.lines < 2 ^ 40 }
-        ensures ok { OnOk result (self.new ≡ advanced span.whole self.old) }
-        ensures line { OnOk result
-            (into.new.items ≡ into.old.items ++ take span.len self.old.ahead) }
-        ensures err { OnErr result (self.new ≡ self.old) }
-        ensures kept { OnErr result (into.new.items ≡ into.old.items) }
-    {
-        into.extend_from_slice(&self.buffer[self.start..self.start + span.len])?;
-        self.start += span.whole;
-        self.place += span.whole as u64;
-        self.lines += 1;
-        Ok(())
-    }
-
-    // Reads on, behind the bytes that are ahead.
-    fn read_ahead<F: Files>(&mut self, files: &mut F) -> Result<usize, FileErr>
-        requires room { length self.old.ahead < BUFFER }
-        requires lines { self.old.lines < 2 ^ 40 }
-        ensures at { IsAt self.old self.new }
-        ensures more { IfOk result (λ count.
-            length self.new.ahead ≡ length self.old.ahead + count) }
-        ensures err { OnErr result (self.new.ahead ≡ self.old.ahead) }
-        ensures none { result ≡ Ok 0 → self.new.ahead ≡ self.old.ahead }
-        ensures read { IfOk result (λ count.
-            ForFile (F.state files.old).told self.old.name (λ bytes.
-            let at = self.old.place + length self.old.ahead in
-            self.new.ahead ≡ self.old.ahead ++ take count (drop at bytes))) }
-        ensures nothing { result ≡ Ok 0 →
-            ForFile (F.state files.old).told self.old.name (λ bytes.
-            length bytes ≤ self.old.place + length self.old.ahead) }
-        ensures within { IfOk result (λ count.
-            ForFile (F.state files.old).told self.old.name (λ bytes.
-            count ≤ length bytes - (self.old.place + length self.old.ahead))) }
-
-        ensures there { OnOk result (IsThere (F.state files.old).told self.old.name) }
-        ensures leaves { ReadsFiles (F.state files.old) (F.state files.new)
-            (IsErrOf result FileErr.Failed)
-            (contents (F.state files.old).told self.old.name ≡ None) }
-    {
-        self.buffer.rotate_left(self.start);
-        self.end -= self.start;
-        self.start = 0;
-        let at = self.place + self.end as u64;
-        let count = read_behind(
-            files,
-            self.name.as_str(),
-            at,
-            self.buffer.as_mut_slice(),
-            self.end,
-        )?;
-        self.end += count;
-        Ok(count)
-    }
-
     // Reads on until a whole line is ahead, or the file's end.
-    fn find_line<F: Files>(&mut self, files: &mut F) -> Result<Option<Span>, LineErr>
+    pub(crate) fn find_line<F: Files>(&mut self, files: &mut F) -> Result<Option<Span>, LineErr>
         requires { self.old.lines < 2 ^ 40 }
         ensures at { IsAt self.old self.new }
         ensures step { IsInStep self.old (F.state files.old).told →
@@ -292,7 +184,8 @@ impl LineReader {
         into.clear();
         match self.find_line(files)? {
             Some(span) => {
-                self.give(span, into)?;
+                into.extend_from_slice(self.line(span))?;
+                self.pass(span);
                 Ok(Line::Got)
             }
             None => Ok(Line::End),

@@ -1,10 +1,10 @@
 use Rattle.std.proofs.Common.{arith, ap, ◌∙◌, ◌+◌, ◌≤◌, ◌-◌, ℕ, List, length, take, drop, subst, sym, length-take}
 use Rattle.pth_outside.specs.Reading.{Reader, advanced}
 use Rattle.pth_outside.proofs.ReadingLemmas.{ahead_behind}
-use Rattle.pth_outside.proofs.line_reader.LineReader.give.Goals as goal
+use Rattle.pth_outside.proofs.line_reader.LineReader.pass.Goals as goal
 
-pub returns-clause-ok : goal.returns-clause-ok
-returns-clause-ok c =
+pub returns : goal.returns
+returns c =
     let inside = c.self.inside in
     let within : c.args.span.whole ≤ length (take (inside.end - inside.start) (drop inside.start inside.buffer.items)) =
     subst (λ (r : Reader). c.args.span.whole ≤ length r.ahead) (sym c.self.view_is) c.requires.within in

@@ -1,6 +1,6 @@
 use Rattle.std.proofs.Common.{arith, ap, ◌∙◌, ◌++◌, ℕ, List, take}
 use Rattle.pth_outside.proofs.ReadingLemmas.{both, written_behind}
-use Rattle.pth_outside.proofs.line_reader.read_behind.Goals as goal
+use Rattle.pth_outside.proofs.line_reader.ahead.read_behind.Goals as goal
 
 pub returns-clause-read : goal.returns-clause-read
 returns-clause-read g c =
