@@ -176,7 +176,7 @@ fn place_with(
     ensures placed { IfOk result (λ answer. IfOk answer (λ placed. IsPlaced plan.now placed)) }
     ensures stuck { IfOk result (λ answer. IfErr answer (λ stuck. IsStuckAt plan.now stuck)) }
 {
-    scratch.serve(plan.largest())?;
+    scratch.serve(plan)?;
     let placed = Placed::new(alloc, plan)?;
     Ok(place_from(plan, placed, scratch))
 }

@@ -1,5 +1,6 @@
 pub mod Words
 pub mod MarkLemmas
+pub mod StampLemmas
 pub mod BucketCounts
 pub mod Fitting
 pub mod Sorting

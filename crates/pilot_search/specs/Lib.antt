@@ -1,6 +1,7 @@
 pub mod Table
 pub mod Room
 pub mod Marking
+pub mod Stamping
 pub mod Kept
 pub mod Flags
 pub mod Outcome

@@ -1,4 +1,4 @@
-// Whether a pilot fits a bucket.
+// Whether a pilot fits a bucket, and its positions.
 
 ghost use Rattle.std.specs.Prelude.{◌≡◌, ◌<◌, ◌≤◌, [], true, false, length, take, not, IsTrue};
 ghost use Rattle.std.specs.List.{list_all};
@@ -140,4 +140,15 @@ fn fitting_front(
         positions[i] = position;
     }
     members.len()
+}
+
+// Writes the position of each member to its place.
+pub(crate) fn write_positions(members: &[u64], hash: u64, size: &Divisor, positions: &mut [u64])
+    requires { length members.now ≤ length positions.old }
+    ensures { let places = positions_under hash size.now members.now in
+        take (length members.now) positions.new ≡ places }
+{
+    for (i, member) in members.iter().enumerate() {
+        positions[i] = size.remainder(*member ^ hash);
+    }
 }

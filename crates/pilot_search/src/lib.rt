@@ -15,6 +15,9 @@ mod scratch;
 mod shares;
 mod single;
 #[cfg(test)]
+mod stamp_tests;
+mod stamps;
+#[cfg(test)]
 mod tests;
 
 pub use crate::adopting::{adopt, spread};

@@ -11,6 +11,7 @@ use crate::fit::is_fit;
 use crate::groups::{GROUP, find_in_group};
 use crate::occupancy::Occupancy;
 use crate::repeats::{FEW, are_members_distinct, may_fit};
+use crate::stamps::{are_wanted, find_by_stamps};
 use divisor::Divisor;
 use murmur64::pilot_hash;
 
@@ -25,6 +26,7 @@ pub(crate) fn find_pilot(
     hashes: &[u64],
     positions: &mut [u64],
     marks: &mut [u64],
+    stamps: &mut [u16],
 ) -> Option<u64>
     requires some { 1 ≤ length members.now }
     requires room { length members.now ≤ length positions.old }
@@ -43,6 +45,11 @@ pub(crate) fn find_pilot(
         if !are_members_distinct(members, positions) {
             return None;
         }
+    }
+    if are_wanted(stamps, members.len() as u64, size.value()) {
+        return find_by_stamps(
+            members, first, seed, limit, size, occupied, hashes, positions, stamps,
+        );
     }
     match find_among_kept(
         members, first, seed, limit, size, occupied, hashes, positions, marks,

@@ -9,12 +9,13 @@ ghost use Rattle.pthash.specs.Search.{is_distinct, pilot_fits, positions_of};
 ghost use Rattle.pthash.specs.Least.{FailsBelow, IsAnswer};
 ghost use Rattle.pilot_search.specs.Kept.{AreHashes};
 ghost use Rattle.pilot_search.specs.Marking.{AreMarks};
-ghost use Rattle.pilot_search.specs.Table.{positions_under};
 
+use crate::fit::write_positions;
 use crate::occupancy::Occupancy;
 use crate::pilot::find_pilot;
 use crate::plan::Plan;
 use crate::repeats::are_distinct;
+use crate::stamps::{add_stamps, stamp_count};
 use bucket_map::NoMemory;
 use divisor::Divisor;
 use murmur64::pilot_hash;
@@ -24,13 +25,15 @@ use std::marker::Model;
 // The most hashes of pilots that are kept.
 const MOST_HASHES: u64 = 4096;
 
-/// The room of a search: for the positions of one bucket, and for hashes of pilots.
+/// The room of a search: for the positions of one bucket, for hashes of pilots, and for stamps where a bucket is large.
 #[derive(Drop)]
 pub struct Scratch {
     positions: Vec<u64>,
     // how many positions were computed last
     used: u64,
     marks: Vec<u64>,
+    // one for each position of the table, or none
+    stamps: Vec<u16>,
     // the hashes of the first pilots
     hashes: Vec<u64>,
     seed: u64,
@@ -56,8 +59,10 @@ impl Scratch {
     pub fn new(alloc: Global, plan: &Plan) -> Result<Self, NoMemory>
         ensures { IfOk result (λ scratch. most_members plan.now.buckets ≤ scratch.members) }
     {
-        let count = MOST_HASHES.min(64 + plan.size() / 16);
-        Ok(room_for(alloc, plan.largest(), count, plan.seed())?)
+        let members = plan.largest();
+        let stamps = stamp_count(members, plan.size());
+        let hashes = MOST_HASHES.min(64 + plan.size() / 16);
+        Ok(room_for(alloc, members, stamps, hashes, plan.seed())?)
     }
 
     /// Room for buckets of at most so many members, of whatever plan.
@@ -65,16 +70,18 @@ impl Scratch {
         requires { members ≤ MAX_POSITIONS }
         ensures { IfOk result (λ scratch. scratch.members ≡ members) }
     {
-        Ok(room_for(alloc, members, MOST_HASHES, 0)?)
+        Ok(room_for(alloc, members, 0, MOST_HASHES, 0)?)
     }
 
-    /// Makes room for buckets of so many members, and keeps what room there is.
-    pub fn serve(&mut self, members: u64) -> Result<(), NoMemory>
-        requires { members ≤ MAX_POSITIONS }
-        ensures ok { OnOk result (members ≤ self.new.members) }
+    /// Makes room for each bucket of the plan, and keeps what room there is.
+    pub fn serve(&mut self, plan: &Plan) -> Result<(), NoMemory>
+        ensures ok { OnOk result (most_members plan.now.buckets ≤ self.new.members) }
         ensures kept { self.old.members ≤ self.new.members }
         ensures err { OnErr result (self.new ≡ self.old) }
     {
+        let members = plan.largest();
+        let stamps = stamp_count(members, plan.size());
+        add_stamps(&mut self.stamps, stamps as usize)?;
         if members > self.positions.len() as u64 {
             let words = (members / 8 + 1).next_power_of_two();
             lengthen(&mut self.marks, words as usize)?;
@@ -147,6 +154,7 @@ impl Scratch {
             &self.hashes,
             &mut self.positions,
             &mut self.marks,
+            &mut self.stamps,
         )
     }
 
@@ -166,19 +174,28 @@ impl Scratch {
     }
 }
 
-// Room for these members and so many hashes of pilots.
-fn room_for(alloc: Global, members: u64, count: u64, seed: u64) -> Result<Scratch, AllocError>
+// Room for these members, and so many stamps and hashes of pilots.
+fn room_for(
+    alloc: Global,
+    members: u64,
+    stamps: u64,
+    hashes: u64,
+    seed: u64,
+) -> Result<Scratch, AllocError>
     requires members { members ≤ MAX_POSITIONS }
-    requires count { count ≤ 4096 }
+    requires stamps { stamps ≤ MAX_POSITIONS }
+    requires hashes { hashes ≤ 4096 }
     ensures { IfOk result (λ scratch. scratch.members ≡ members) }
 {
     let positions = vec![in alloc; 0; members as usize]?;
     let marks = no_marks(alloc, members)?;
-    let hashes = hashes_of(alloc, count, seed)?;
+    let stamps = vec![in alloc; 0; stamps as usize]?;
+    let hashes = hashes_of(alloc, hashes, seed)?;
     Ok(Scratch {
         positions,
         used: 0,
         marks,
+        stamps,
         hashes,
         seed,
         size: Divisor::new(1),
@@ -231,17 +248,6 @@ fn fill_hashes(hashes: &mut [u64], seed: u64)
 {
     for pilot in 0..hashes.len() {
         hashes[pilot] = pilot_hash(pilot as u64, seed);
-    }
-}
-
-// Writes the position of each member to its place.
-fn write_positions(members: &[u64], hash: u64, size: &Divisor, positions: &mut [u64])
-    requires { length members.now ≤ length positions.old }
-    ensures { let places = positions_under hash size.now members.now in
-        take (length members.now) positions.new ≡ places }
-{
-    for (i, member) in members.iter().enumerate() {
-        positions[i] = size.remainder(*member ^ hash);
     }
 }
 

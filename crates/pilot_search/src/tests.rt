@@ -14,12 +14,12 @@ const SEED_OF_ZERO: u64 = 3_829_533_694_005_038_248;
 
 const SIZE: u64 = 5;
 
-const PILOTS: u64 = 16_777_216;
+pub(crate) const PILOTS: u64 = 16_777_216;
 
-const ODD: u64 = 0x9e37_79b9_7f4a_7c15;
+pub(crate) const ODD: u64 = 0x9e37_79b9_7f4a_7c15;
 
 // A pair of hashes of a key, of which no more is known.
-fn record(a: u64, b: u64) -> Record {
+pub(crate) fn record(a: u64, b: u64) -> Record {
     Record { a, b, ordinal: 0 }
 }
 

@@ -2,7 +2,7 @@ use Rattle.std.proofs.Common.{ℕ, List, ◌≡◌, ◌<◌, ◌++◌, ◌∷◌
 use Rattle.std.proofs.lemmas.List.{take_more, take_more_set}
 use Rattle.pilot_search.specs.Table.{positions_under}
 use Rattle.pilot_search.proofs.Fitting.{get_or-positions_under, length-positions_under}
-use Rattle.pilot_search.proofs.scratch.write_positions.Goals as goal
+use Rattle.pilot_search.proofs.fit.write_positions.Goals as goal
 
 pub loop-i-preserved : goal.loop-i-preserved
 loop-i-preserved c =
