@@ -3,6 +3,7 @@ pub mod WordLemmas
 pub mod ReadLemmas
 pub mod PackLemmas
 pub mod ViewLemmas
+pub mod WordOnes
 pub mod SampleLemmas
 pub mod SetLemmas
 pub mod FieldLemmas

@@ -5,6 +5,7 @@ pub mod Ranks
 pub mod Members
 pub mod LayingOut
 pub mod Largest
+pub mod RankedNumbers
 pub mod Arranged
 pub mod Held
 pub mod Later

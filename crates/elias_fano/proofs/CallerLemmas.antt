@@ -5,7 +5,7 @@ pub use Rattle.elias_fano.proofs.ValueLemmas.{below_len-gt}
 pub use Rattle.elias_fano.proofs.ValueLemmas.{below_len-most, below_len-all}
 pub use Rattle.elias_fano.proofs.BuildLemmas.{is_among-push, on_ok-map}
 pub use Rattle.elias_fano.proofs.FormLemmas.{IsBytes, length-words_in, IsBytes-drop, IsBytes-take, words_in-fit, packed_if_clear}
-pub use Rattle.elias_fano.proofs.LawLemmas.{bind_ok, guard_ok, guard_last, done, ok_is, Takes, Takes-then, number_takes, number_again, words_written}
-pub use Rattle.elias_fano.proofs.LawLemmas.{words_again, length-numbers, run_takes, run_again, IsTaken, list_takes, list_again, fails_not, length-run}
-pub use Rattle.elias_fano.proofs.LawLemmas.{length-ef_text, spelled_among}
+pub use Rattle.elias_fano.proofs.ReadSteps.{bind_ok, guard_ok, guard_last, done, ok_is, Takes, Takes-then, number_takes, number_again}
+pub use Rattle.elias_fano.proofs.ReadSteps.{words_written, words_again, length-numbers, run_takes, run_again}
+pub use Rattle.elias_fano.proofs.LawLemmas.{IsTaken, list_takes, list_again, fails_not, length-run, length-ef_text, spelled_among}
 pub use Rattle.elias_fano.proofs.ShortLemmas.{bind_err, guard_err, guard_last_err, failed, err_is, read_as, not_both, other_kind, tells, tells_none, tells_same}

@@ -4,6 +4,7 @@ pub mod PartLemmas
 pub mod TextLemmas
 pub mod BuildLemmas
 pub mod FormLemmas
+pub mod ReadSteps
 pub mod LawLemmas
 pub mod ShortLemmas
 pub mod CallerLemmas

@@ -4,7 +4,7 @@ use Rattle.std.specs.Prelude.{List, ◌++◌, length, drop, sum, All}
 use Rattle.std.specs.Prelude.{Option, Some, None, IfSome, Result, Ok, Err}
 use Rattle.std.specs.List.{flat_map}
 use Rattle.std.proofs.Common.{get_or, refl, sym, ap, ◌∙◌, subst, inl, inr, arith}
-use Rattle.std.proofs.lemmas.Bool.{cases_lt, eqb-true, eqb-false, eq-eqb, ne_eqb, ltb-false, le-ltb, not-false}
+use Rattle.std.proofs.lemmas.Bool.{cases_lt, eqb-true, eqb-false, eq-eqb, ltb-false, le-ltb, not-false}
 use Rattle.std.proofs.lemmas.List.{get_or_past, drop_at, length-append}
 use Rattle.pthash.specs.declared.TheConstants.{MAX_KEYS}
 use Rattle.elias_fano.specs.Spelling.{number}

@@ -3,7 +3,7 @@ use Rattle.std.specs.Prelude.{◌≡◌, ℕ, ◌+◌, ◌-◌, ◌<◌, ◌≤�
 use Rattle.std.specs.Prelude.{length, drop, sum, slice_index, All, Option, Some, None}
 use Rattle.std.specs.Prelude.{Result, Ok, ◌==◌}
 use Rattle.std.specs.List.{flat_map}
-use Rattle.std.proofs.Common.{refl, sym, ap, ◌∙◌, subst, append_assoc, inl, inr, arith}
+use Rattle.std.proofs.Common.{refl, sym, ap, ◌∙◌, subst, inl, inr, arith}
 use Rattle.std.proofs.lemmas.Bool.{eqb-true}
 use Rattle.std.proofs.lemmas.List.{nil_from_length}
 use Rattle.std.proofs.lemmas.List.Sums.{sum_by-cons}
@@ -13,7 +13,7 @@ use Rattle.pthash.specs.declared.Map.{Map}
 use Rattle.pthash.specs.declared.Map.TheVariants.{Skewed}
 use Rattle.pthash.specs.Shapes.{ShapeData}
 use Rattle.elias_fano.specs.Spelling.{number}
-use Rattle.elias_fano.proofs.CallerLemmas.{IsBytes, Takes}
+use Rattle.elias_fano.proofs.CallerLemmas.{IsBytes}
 use Rattle.pilot_codecs.specs.declared.code.Encoding.{Encoding}
 use Rattle.build_outcome.specs.Index.{PartData, KeyMarkData, IndexData}
 use Rattle.build_outcome.specs.Values.{key_count}
@@ -29,7 +29,8 @@ use Rattle.index_text.specs.Lists.{partitions_at}
 use Rattle.index_text.specs.Reading.{ended, headed_at, index_at}
 use Rattle.index_text.proofs.Steps.{bind_ok, last_ok, ok_is}
 use Rattle.index_text.proofs.ListLaws.{PartsTaken, partitions_take, partitions_again}
-use Rattle.index_text.proofs.HeadLaws.{sealed_takes, sealed_again, AreFields, head_takes, head_again, encoding_takes, encoding_again}
+use Rattle.index_text.proofs.DigestLaws.{sealed_takes, sealed_again}
+use Rattle.index_text.proofs.HeadLaws.{AreFields, head_takes, head_again, encoding_takes, encoding_again}
 use Rattle.index_text.proofs.HeadLaws.{map_takes, map_again, IsInRange, shape_takes, shape_again}
 use Rattle.index_text.proofs.CountLaws.{MarkTaken, mark_takes, mark_again, CountsTaken, counts_take, counts_again}
 use Rattle.index_text.proofs.LengthLaws.{length-key_counts, index_text-few, body_text-some}

@@ -24,7 +24,8 @@ use Rattle.build_outcome.specs.Values.{key_count}
 use Rattle.build_outcome.specs.Validity.{IsValidPart, IsValidIndex}
 use Rattle.index_text.specs.declared.head.TheConstants.{MAX_BYTES}
 use Rattle.index_text.specs.Text.{fields_of, head_text, mark_numbers, key_counts, part_text, parts_text, body_text, digest_of, index_text}
-use Rattle.index_text.proofs.ListLaws.{FitSplit-pilots, IsRising-free, IsValidPart-none, part_text-some}
+use Rattle.index_text.proofs.PartLists.{FitSplit-pilots}
+use Rattle.index_text.proofs.ListLaws.{IsRising-free, IsValidPart-none, part_text-some}
 
 -- a quotient rounded up is at most a factor more than one, if the number is at most that factor of the divisor
 div_ceil-le : (x y k : ℕ) → 0 < y → x ≤ k * y → div_ceil x y ≤ k + 1

@@ -1,6 +1,6 @@
 -- How many values at the front are below a bound.
-use Rattle.std.proofs.Common.{◌≡◌, ℕ, zero, suc, ◌+◌, ◌-◌, ◌<◌, ◌≤◌, Bool, cond, eqb, ltb, List, [], ◌∷◌, ◌++◌, length}
-use Rattle.std.proofs.Common.{get_or, map, Some, refl, sym, ap, ◌∙◌}
+use Rattle.std.proofs.Common.{◌≡◌, ℕ, zero, suc, ◌+◌, ◌-◌, ◌<◌, ◌≤◌, Bool, cond, ltb, List, [], ◌∷◌, ◌++◌, length}
+use Rattle.std.proofs.Common.{get_or, refl, sym, ap, ◌∙◌}
 use Rattle.std.proofs.Common.{inl, inr, arith}
 use Rattle.std.specs.Prelude.{option_map}
 use Rattle.std.specs.List.{slice_get}
@@ -14,7 +14,8 @@ use Rattle.pilot_codecs.specs.Reading.{looked_up, steps_from}
 use Rattle.pilot_codecs.specs.Parts.{IsDict}
 use Rattle.pilot_codecs.proofs.FieldLemmas.{get_or-le-greatest}
 use Rattle.pilot_codecs.proofs.DictLemmas.{some_is, are_below-at}
-use Rattle.pilot_codecs.proofs.DictLaws.{up_from-rise_len, slice_get-looked_up}
+use Rattle.pilot_codecs.proofs.DictMembers.{up_from-rise_len}
+use Rattle.pilot_codecs.proofs.DictLaws.{slice_get-looked_up}
 use Rattle.pilot_codecs.proofs.SortLemmas.{up_in_order}
 use Rattle.pilot_codecs.proofs.SumLemmas.{length-steps_from}
 

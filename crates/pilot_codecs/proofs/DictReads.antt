@@ -16,7 +16,8 @@ use Rattle.pilot_codecs.specs.Parts.{IsDict}
 use Rattle.pilot_codecs.proofs.FieldLemmas.{get_or-le-greatest}
 use Rattle.pilot_codecs.proofs.CompactLaws.{compact_takes, compact_again}
 use Rattle.pilot_codecs.proofs.DictLemmas.{rise_len-le, are_below-at}
-use Rattle.pilot_codecs.proofs.DictLaws.{greatest_within, index_of_among, among_at, among_distinct, few_distinct, some_distinct, dict_made, dict_text-looked_up}
+use Rattle.pilot_codecs.proofs.DictMembers.{greatest_within, index_of_among, among_at}
+use Rattle.pilot_codecs.proofs.DictLaws.{among_distinct, few_distinct, some_distinct, dict_made, dict_text-looked_up}
 use Rattle.pilot_codecs.proofs.DictForms.{used_at-ok, indexed_at-ok, entries_at-rest, dict_at-entries}
 
 -- what a reading took

@@ -3,7 +3,7 @@ use Rattle.std.proofs.Common.{◌≡◌, ℕ, zero, suc, ◌+◌, ◌*◌, ◌-�
 use Rattle.std.proofs.Common.{length, get_or, take, drop, Some, Result, Ok}
 use Rattle.std.proofs.Common.{Err, refl, sym, ap, ◌∙◌, append_assoc, arith}
 use Rattle.std.specs.List.{flat_map, slice_get}
-use Rattle.std.proofs.lemmas.List.{append-nil, drop-drop, take-append-drop, drop_all, length-drop, length-take, get_or_default}
+use Rattle.std.proofs.lemmas.List.{append-nil, drop-drop, take-append-drop, length-drop, length-take}
 use Rattle.elias_fano.specs.declared.fault.FormFault.{FormFault}
 use Rattle.elias_fano.specs.declared.fault.ReadErr.{ReadErr}
 use Rattle.elias_fano.specs.declared.fault.ReadErr.TheVariants as errors

@@ -7,6 +7,7 @@ pub mod GroupLemmas
 pub mod GroupLaws
 pub mod DictLemmas
 pub mod WalkLemmas
+pub mod DictMembers
 pub mod DictLaws
 pub mod DictForms
 pub mod SortLemmas

@@ -18,7 +18,8 @@ use Rattle.pilot_codecs.specs.Spelling.{code_text, split_text}
 use Rattle.pilot_codecs.specs.Spelling.{pair_text, Fits}
 use Rattle.pilot_codecs.specs.Encoded.{FitSplit, IsSpelled}
 use Rattle.pilot_codecs.proofs.FieldLemmas.{digits_of-le}
-use Rattle.pilot_codecs.proofs.DictLaws.{greatest_within, few_distinct}
+use Rattle.pilot_codecs.proofs.DictMembers.{greatest_within}
+use Rattle.pilot_codecs.proofs.DictLaws.{few_distinct}
 use Rattle.pilot_codecs.proofs.GroupLaws.{greatest-take, greatest-drop}
 use Rattle.pilot_codecs.proofs.SumLemmas.{length-sums_from, rises-sums_from, IsRising-sums_from}
 use Rattle.pilot_codecs.proofs.CodeLaws.{front_le}

@@ -9,7 +9,7 @@ use Rattle.bit_vector.proofs.PackLemmas.{below_from_div}
 use Rattle.elias_fano.specs.Spelling.{log2_within}
 use Rattle.pilot_codecs.specs.Spelling.{digits_of, greatest}
 use Rattle.pilot_codecs.proofs.FieldLemmas.{digits_of-is, digits_of-pos, get_or-le-greatest}
-use Rattle.pilot_codecs.proofs.DictLaws.{greatest_within}
+use Rattle.pilot_codecs.proofs.DictMembers.{greatest_within}
 
 -- the top bit of a number among others is what is left of it without its lower bits
 pub top_bit : (n w i at v : ℕ) → 0 < w → at ≡ i * w + (w - 1) → n / 2 ^ (i * w) % 2 ^ w ≡ v → n / 2 ^ at % 2 ^ 1 ≡ v / 2 ^ (w - 1)

@@ -17,7 +17,7 @@ use Rattle.turn_search.specs.declared.board.Look.{Look}
 use Rattle.turn_search.specs.declared.board.View.{View}
 use Rattle.turn_search.specs.Looks.{found_taken, is_open_under}
 use Rattle.turn_search.specs.Passes.{OnlyLooked, LooksAt}
-use Rattle.turn_search.proofs.Looked.{taken_left, look_taken}
+use Rattle.turn_search.proofs.MoreLooks.{taken_left, look_taken}
 
 -- the flag of a number that fails where it is set
 pub known_flag : (test : ℕ → Bool) (from : ℕ) (set : Bool) → (set ≡ true → test from ≡ false) → FailWhereSet test from (from_bool set)

@@ -6,6 +6,7 @@ pub mod LoadKept
 pub mod CommitKept
 pub mod TurnKept
 pub mod Seats
+pub mod MoreLooks
 pub mod Looked
 pub mod Flagged
 pub mod LastState

@@ -1,6 +1,7 @@
 use Rattle.std.proofs.Common.{◌+◌, get_or, arith}
 use Rattle.std.proofs.lemmas.Nat.{ones-le}
-use Rattle.bit_vector.proofs.SampleLemmas.{IsSoFar, count_pushed, count_kept, all_ones-more}
+use Rattle.bit_vector.proofs.WordOnes.{all_ones-more}
+use Rattle.bit_vector.proofs.SampleLemmas.{IsSoFar, count_pushed, count_kept}
 use Rattle.bit_vector.proofs.samples.counts_of.Goals as goal
 use Rattle.bit_vector.proofs.samples.counts_of.Goals.{then-at-eq0+in_ok-push, else-at-eq0}
 

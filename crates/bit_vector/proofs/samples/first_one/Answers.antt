@@ -1,5 +1,5 @@
 use Rattle.std.proofs.Common.{arith}
-use Rattle.bit_vector.proofs.SampleLemmas.{one_among}
+use Rattle.bit_vector.proofs.WordOnes.{one_among}
 use Rattle.bit_vector.proofs.samples.first_one.Goals as goal
 
 pub returns-then-word-ne0 : goal.returns-then-word-ne0

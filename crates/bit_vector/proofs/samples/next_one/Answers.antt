@@ -4,7 +4,8 @@ use Rattle.std.specs.Int.RustNames.{count_ones}
 use Rattle.bit_vector.specs.Bits.{words_number}
 use Rattle.bit_vector.specs.Samples.{all_ones, IsOneAt}
 use Rattle.bit_vector.proofs.WordLemmas.{AreWords}
-use Rattle.bit_vector.proofs.SampleLemmas.{one_above, one_within, one_among, ones_below_place, ones_passed, ones_all}
+use Rattle.bit_vector.proofs.WordOnes.{one_among, ones_below_place}
+use Rattle.bit_vector.proofs.SampleLemmas.{one_above, one_within, ones_passed, ones_all}
 use Rattle.bit_vector.proofs.samples.next_one.Goals as goal
 
 pub returns-then-first-words : goal.returns-then-first-words

@@ -3,7 +3,7 @@ use Rattle.std.specs.Int.RustNames.{count_ones}
 use Rattle.std.proofs.Math.Nat.{mod-one}
 use Rattle.std.proofs.lemmas.Nat.{ones-le}
 use Rattle.bit_vector.specs.Samples.{all_ones}
-use Rattle.bit_vector.proofs.SampleLemmas.{no_ones, all_ones-take-le, ones_below_place}
+use Rattle.bit_vector.proofs.WordOnes.{no_ones, all_ones-take-le, ones_below_place}
 use Rattle.bit_vector.proofs.samples.ones_below.Goals as goal
 
 pub overflow_add-below : goal.overflow_add-below

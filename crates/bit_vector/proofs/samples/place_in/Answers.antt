@@ -1,7 +1,8 @@
 use Rattle.std.proofs.Common.{◌≡◌, ℕ, ◌+◌, ◌/◌, ◌%◌, ◌^◌, ap, ◌∙◌, arith}
 use Rattle.std.specs.Int.RustNames.{count_ones}
 use Rattle.std.proofs.lemmas.Nat.{shr-shr}
-use Rattle.bit_vector.proofs.SampleLemmas.{ones_cut, quartered}
+use Rattle.bit_vector.proofs.WordOnes.{ones_cut}
+use Rattle.bit_vector.proofs.SampleLemmas.{quartered}
 use Rattle.bit_vector.proofs.samples.place_in.Goals as goal
 
 pub loop-span-preserved : goal.loop-span-preserved

@@ -2,7 +2,8 @@ use Rattle.std.proofs.Common.{◌*◌, ◌-◌, ◌<◌, length, arith}
 use Rattle.std.specs.Int.RustNames.{count_ones}
 use Rattle.std.proofs.lemmas.List.Sums.{sum_by-take-le}
 use Rattle.bit_vector.specs.Samples.{all_ones, IsInWord}
-use Rattle.bit_vector.proofs.SampleLemmas.{one_among, from_sample}
+use Rattle.bit_vector.proofs.WordOnes.{one_among}
+use Rattle.bit_vector.proofs.SampleLemmas.{from_sample}
 use Rattle.bit_vector.proofs.samples.place_of.Goals as goal
 use Rattle.bit_vector.proofs.samples.place_of.Goals.{in-Some, in-None}
 

@@ -1,7 +1,8 @@
 use Rattle.std.proofs.Common.{length, get_or, refl, ap, ◌∙◌, arith}
 use Rattle.std.proofs.lemmas.Nat.{ones-le}
 use Rattle.std.proofs.lemmas.List.{length_push}
-use Rattle.bit_vector.proofs.SampleLemmas.{IsNoted, one_noted, none_noted, all_ones-more}
+use Rattle.bit_vector.proofs.WordOnes.{all_ones-more}
+use Rattle.bit_vector.proofs.SampleLemmas.{IsNoted, one_noted, none_noted}
 use Rattle.bit_vector.proofs.samples.samples_of.Goals as goal
 use Rattle.bit_vector.proofs.samples.samples_of.Goals.{then-next-total+in_ok-push, else-next-total}
 

@@ -1,5 +1,4 @@
-use Rattle.std.proofs.Common.{◌≡◌, ℕ, ◌+◌, ◌*◌, take, drop, ap, ◌∙◌, arith}
-use Rattle.bit_vector.specs.Bits.{number_of}
+use Rattle.std.proofs.Common.{ℕ, ◌*◌, ap, arith}
 use Rattle.elias_fano.proofs.parts.lows_of.Goals as goal
 
 pub get_two-requires-clause-within : goal.get_two-requires-clause-within

@@ -5,7 +5,8 @@ use Rattle.elias_fano.specs.Spelling.{high_len, low_width}
 use Rattle.elias_fano.specs.Reading.{Fails, IsShort, fault, run_at, checked, parts_at}
 use Rattle.std.proofs.lemmas.Result.{err_from_is_err_and}
 use Rattle.elias_fano.proofs.FormLemmas.{parts_at-low, parts_at-high, parts_at-check, parts_at-ok}
-use Rattle.elias_fano.proofs.LawLemmas.{ok_is, run_len}
+use Rattle.elias_fano.proofs.ReadSteps.{ok_is}
+use Rattle.elias_fano.proofs.LawLemmas.{run_len}
 use Rattle.elias_fano.proofs.ShortLemmas.{not_both, run_short, parts_short, tells}
 use Rattle.elias_fano.proofs.reading.parts_of.Goals as goal
 

@@ -3,7 +3,8 @@ use Rattle.std.specs.List.{list_all}
 use Rattle.pilot_search.specs.Table.{positions_under}
 use Rattle.turn_search.specs.Looks.{found_taken, found_free}
 use Rattle.turn_search.specs.Passes.{new_looks}
-use Rattle.turn_search.proofs.Looked.{looked_on, looked_once, look_taken, positions_more, free_more, not_all_free}
+use Rattle.turn_search.proofs.MoreLooks.{looked_on, looked_once, look_taken}
+use Rattle.turn_search.proofs.Looked.{positions_more, free_more, not_all_free}
 use Rattle.turn_search.proofs.table.TurnTable.are_free.Goals as goal
 
 pub returns-then-not-is_free-clause-taken : goal.returns-then-not-is_free-clause-taken

@@ -5,7 +5,8 @@ use Rattle.std.proofs.lemmas.List.{take_more}
 use Rattle.turn_search.specs.Looks.{found_free}
 use Rattle.turn_search.specs.Passes.{new_looks}
 use Rattle.turn_search.proofs.LookLemmas.{position_in_table}
-use Rattle.turn_search.proofs.Looked.{looked_on, looked_once, free_more}
+use Rattle.turn_search.proofs.MoreLooks.{looked_on, looked_once}
+use Rattle.turn_search.proofs.Looked.{free_more}
 use Rattle.turn_search.proofs.table.TurnTable.are_still_free.Goals as goal
 
 pub is_free-requires-clause-position : goal.is_free-requires-clause-position

@@ -1,5 +1,6 @@
 use Rattle.std.proofs.Common.{ap, refl, ◌∙◌}
-use Rattle.turn_search.proofs.Looked.{looked_on, rejects_on, rejects_next, candidate_on}
+use Rattle.turn_search.proofs.MoreLooks.{looked_on}
+use Rattle.turn_search.proofs.Looked.{rejects_on, rejects_next, candidate_on}
 use Rattle.turn_search.proofs.table.TurnTable.find_between.Goals as goal
 
 pub try_pilot-requires-clause-size : goal.try_pilot-requires-clause-size

@@ -7,7 +7,8 @@ use Rattle.pthash.specs.SearchLaws.{fits_at}
 use Rattle.pilot_search.specs.Flags.{FailWhereSet}
 use Rattle.pilot_search.proofs.FlagLemmas.{fails_skipped, flags_past}
 use Rattle.turn_search.specs.Looks.{found_taken}
-use Rattle.turn_search.proofs.Looked.{looked_none, looked_on, rejects_on, rejects_next, candidate_on}
+use Rattle.turn_search.proofs.MoreLooks.{looked_none, looked_on}
+use Rattle.turn_search.proofs.Looked.{rejects_on, rejects_next, candidate_on}
 use Rattle.turn_search.proofs.Flagged.{rejected_on}
 use Rattle.turn_search.proofs.table.TurnTable.find_in_group.Goals as goal
 

@@ -3,7 +3,7 @@ use Rattle.std.specs.Prelude.{bit_xor, slice_index}
 use Rattle.std.proofs.lemmas.Grind.{pow_more}
 use Rattle.pilot_search.specs.Flags.{FailWhereSet}
 use Rattle.turn_search.specs.Looks.{is_open_under}
-use Rattle.turn_search.proofs.Looked.{looked_on, looked_once}
+use Rattle.turn_search.proofs.MoreLooks.{looked_on, looked_once}
 use Rattle.turn_search.proofs.Flagged.{one_more_look, flag_bound}
 use Rattle.turn_search.proofs.table.TurnTable.member_flags.Goals as goal
 
