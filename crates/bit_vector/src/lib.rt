@@ -16,6 +16,3 @@ const BLOCK: usize = 16;
 const STEP: u64 = 128;
 // How many words are looked at from a noted place on, before the counts are asked.
 const NEAR: usize = 16;
-
-#[cfg(test)]
-mod tests;

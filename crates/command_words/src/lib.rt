@@ -9,8 +9,6 @@ pub mod kinds;
 mod names;
 mod number;
 mod options;
-#[cfg(test)]
-mod tests;
 mod values;
 mod words;
 

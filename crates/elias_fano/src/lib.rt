@@ -13,6 +13,3 @@ pub use fault::{COUNT, FormFault, LAST, ORDER, PADDING, ReadErr, SHORT, WIDTH};
 pub use list::EliasFano;
 pub use reading::{append_words, read_list, read_number};
 pub use writing::put_numbers;
-
-#[cfg(test)]
-mod tests;

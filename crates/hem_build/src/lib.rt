@@ -11,8 +11,6 @@ mod hashing;
 mod mark;
 mod pieces;
 mod refusal;
-#[cfg(test)]
-mod tests;
 mod workers;
 
 pub use crate::build::build_keys;

@@ -20,8 +20,3 @@ pub use build_outcome::KeyMark;
 pub use hem_build::Built;
 pub use index_text::{IndexFault, MAX_BYTES};
 pub use pilot_codecs::{Code, Encoding, NoMemory};
-
-#[cfg(test)]
-mod built_tests;
-#[cfg(test)]
-mod tests;

@@ -9,6 +9,3 @@ pub use crate::check::{CheckErr, check_keys};
 pub use crate::checked::Checked;
 pub use build_outcome::KeyMark;
 pub use index_file::Index;
-
-#[cfg(test)]
-mod tests;

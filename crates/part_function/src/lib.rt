@@ -6,8 +6,6 @@ mod equal_members;
 mod free_positions;
 mod numbering;
 mod part;
-#[cfg(test)]
-mod tests;
 
 pub use crate::build::{build_part, build_part_with};
 pub use crate::free_positions::free_list;

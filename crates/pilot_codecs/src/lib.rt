@@ -20,6 +20,3 @@ pub use pilots::Pilots;
 
 // How many values a group has.
 const GROUP: u64 = 256;
-
-#[cfg(test)]
-mod tests;

@@ -4,32 +4,18 @@
 mod answer;
 mod build;
 mod check;
-#[cfg(test)]
-mod check_tests;
 mod demo;
-#[cfg(test)]
-mod demo_tests;
 mod finish;
-#[cfg(test)]
-mod index_tests;
 mod lists;
 mod marks;
 mod pilots;
 mod query;
 mod read;
 mod stats;
-#[cfg(test)]
-mod stats_tests;
 mod summary;
-#[cfg(test)]
-mod tests;
 mod text;
 mod top;
-#[cfg(test)]
-mod turn_tests;
 mod upgrade;
-#[cfg(test)]
-mod upgrade_tests;
 mod values;
 
 pub use check::check_command;

@@ -13,12 +13,8 @@ mod plays;
 mod retesting;
 mod searching;
 mod table;
-#[cfg(test)]
-mod tests;
 mod trying;
 mod turns;
-#[cfg(test)]
-mod worker_tests;
 mod working;
 
 pub use crate::claiming::Claim;

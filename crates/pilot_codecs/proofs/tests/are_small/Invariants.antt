@@ -1,5 +1,0 @@
-use Rattle.std.proofs.Common.{ℕ, ◌<◌, ◌^◌, get_or}
-use Rattle.pilot_codecs.proofs.tests.are_small.Given as goal
-
-abbrev pub invariant-loop-value : goal.invariant-loop-value
-invariant-loop-value l = (k : ℕ) → k < l.value-index → get_or l.values k 0 < 2 ^ 32
