@@ -241,8 +241,8 @@ impl Compact {
     /// Sets the mark of each value, up to the first without one, and says whether each has one.
     pub fn mark(&self, marks: &mut [bool]) -> bool
         ensures value { result ≡ are_below (length marks.old) self.now }
-        ensures marks { IsTrue result → (d : ℕ) → d < length marks.old → get_or marks.new d false
-            ≡ (get_or marks.old d false || is_among d self.now) }
+        ensures marks { IsTrue result → (d : ℕ) → d < length marks.old →
+            get_or marks.new d false ≡ (get_or marks.old d false || is_among d self.now) }
     {
         mark_each(marks, &self.words, self.count, self.width)
     }

@@ -15,7 +15,7 @@ use crate::occupancy::Occupancy;
 use crate::pilot::find_pilot;
 use crate::plan::Plan;
 use crate::repeats::are_distinct;
-use crate::stamps::{add_stamps, stamp_count};
+use crate::stamps::{add_stamps, hash_among, stamp_count};
 use bucket_map::NoMemory;
 use divisor::Divisor;
 use murmur64::pilot_hash;
@@ -98,11 +98,7 @@ impl Scratch {
     {
         keep_hashes(&mut self.hashes, self.seed, seed);
         self.seed = seed;
-        if pilot < self.hashes.len() as u64 {
-            self.hashes[pilot as usize]
-        } else {
-            pilot_hash(pilot, seed)
-        }
+        hash_among(&self.hashes, pilot, seed)
     }
 
     /// The positions that were computed last, in the order of the bucket's members.

@@ -1,8 +1,7 @@
 // The pilot of a large bucket: each tested pilot stamps the positions that it comes to.
 
-ghost use Rattle.std.specs.Prelude.{◌≡◌, ◌<◌, ◌≤◌, [], length, take, IfSome, IsTrue};
+ghost use Rattle.std.specs.Prelude.{◌≡◌, ◌<◌, ◌≤◌, [], length, take, IfSome, IsTrue, OnOk, OnErr};
 ghost use Rattle.std.specs.FinSet.{contains, len};
-ghost use Rattle.pthash.specs.declared.TheConstants.{MAX_POSITIONS};
 ghost use Rattle.pthash.specs.Hash.{pilot_hash};
 ghost use Rattle.pthash.specs.Search.{fits, pilot_fits, positions_of};
 ghost use Rattle.pthash.specs.Least.{FailsBelow, IsAnswer};
@@ -45,7 +44,10 @@ pub(crate) fn are_wanted(stamps: &[u16], members: u64, size: u64) -> bool
 }
 
 // Adds stamps up to this count, if there are fewer.
-pub(crate) fn add_stamps(stamps: &mut Vec<u16>, count: usize) -> Result<(), AllocError> {
+pub(crate) fn add_stamps(stamps: &mut Vec<u16>, count: usize) -> Result<(), AllocError>
+    ensures ok { OnOk result (count ≤ length stamps.new.items) }
+    ensures err { OnErr result (stamps.new.items ≡ stamps.old.items) }
+{
     if stamps.len() < count {
         stamps.resize(count, 0)?;
     }
@@ -133,7 +135,7 @@ fn next_stamp(stamps: &mut [u16], last: u16) -> u16
 
 // The hash of a pilot, kept or not.
 #[inline]
-fn hash_among(hashes: &[u64], pilot: u64, seed: u64) -> u64
+pub(crate) fn hash_among(hashes: &[u64], pilot: u64, seed: u64) -> u64
     requires { AreHashes seed hashes.now }
     ensures { result ≡ pilot_hash pilot seed }
 {

@@ -67,20 +67,3 @@ impl Sink for MemSink {
         Ok(())
     }
 }
-
-#[cfg(test)]
-mod tests {
-    use super::*;
-    use std::test::Fail;
-
-    #[test]
-    fn a_failed_write_leaves_half(rt: HostRuntime) -> Result<(), Fail> {
-        let alloc = rt.alloc();
-        let mut sink = MemSink::new(alloc, vec![in alloc; 1u64]?);
-        assert_eq!(rt; sink.write(b"ab"), Ok(()));
-        assert_eq!(rt; sink.write(b"cdefg"), Err(SinkErr::Failed));
-        assert_eq!(rt; sink.write(b"h"), Ok(()));
-        assert_eq!(rt; sink.bytes(), b"abcdh".as_slice());
-        Ok(())
-    }
-}

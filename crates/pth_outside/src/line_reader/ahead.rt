@@ -1,5 +1,6 @@
 // The bytes that a reader has read ahead, and the line that it takes off them.
-ghost use Rattle.std.specs.Prelude.{◌≡◌, ◌+◌, ◌-◌, ◌<◌, ◌≤◌, ◌^◌, ◌++◌, Ok, None, length, take, drop, IfOk, IfSome, IfNone, OnOk, OnErr, IsErrOf};
+ghost use Rattle.std.specs.Prelude.{◌≡◌, ◌+◌, ◌-◌, ◌<◌, ◌≤◌, ◌^◌, ◌++◌, Ok, None, length, take, drop};
+ghost use Rattle.std.specs.Prelude.{IfOk, IfSome, IfNone, OnOk, OnErr, IsErrOf};
 ghost use Rattle.pth_outside.specs.Files.{ReadsFiles, ForFile, contents, IsThere};
 ghost use Rattle.pth_outside.specs.Keys.{HasNoFeed};
 ghost use Rattle.pth_outside.specs.Reading.{advanced, IsAt, IsFirstFeed};
