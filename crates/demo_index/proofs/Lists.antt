@@ -7,8 +7,7 @@ use Rattle.std.proofs.lemmas.List.Sums.{sum_by_more}
 use Rattle.pilot_codecs.specs.declared.code.Encoding.{Encoding}
 use Rattle.build_outcome.specs.Index.{IndexData}
 use Rattle.build_outcome.specs.IndexLaws.{key_number}
-use Rattle.demo_index.specs.declared.codes.TheConstants.{CODES}
-use Rattle.demo_index.specs.Encodings.{alone, followed_by, all_encodings}
+use Rattle.demo_index.specs.Encodings.{all_codes, alone, followed_by, all_encodings}
 use Rattle.demo_index.specs.Trials.{sum_of_values}
 
 -- a key that is read is the one at its place
@@ -30,8 +29,8 @@ unfolding sum_of_values
 sum_none x = refl
 
 -- all lists are the encodings
-pub lists_all : (items : List Encoding) (i : ℕ) → length CODES ≤ i →
-    items ≡ map alone CODES ++ flat_map (λ front. map (followed_by front) CODES) (take i CODES) → items ≡ all_encodings
+pub lists_all : (items : List Encoding) (i : ℕ) → length all_codes ≤ i →
+    items ≡ map alone all_codes ++ flat_map (λ front. map (followed_by front) all_codes) (take i all_codes) → items ≡ all_encodings
 unfolding all_encodings
 lists_all items i past so_far =
-    so_far ∙ ap (λ codes. map alone CODES ++ flat_map (λ front. map (followed_by front) CODES) codes) (take_all i CODES past)
+    so_far ∙ ap (λ codes. map alone all_codes ++ flat_map (λ front. map (followed_by front) all_codes) codes) (take_all i all_codes past)

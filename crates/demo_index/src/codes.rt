@@ -1,6 +1,6 @@
 // The encodings that are tried.
 ghost use Rattle.std.specs.Prelude.{◌≡◌, ◌++◌, map, IfOk, OnOk};
-ghost use Rattle.demo_index.specs.Encodings.{alone, followed_by, all_encodings};
+ghost use Rattle.demo_index.specs.Encodings.{all_codes, alone, followed_by, all_encodings};
 
 use index_file::{Code, Encoding};
 use std::alloc::{AllocFailed, Global};
@@ -10,7 +10,7 @@ pub const CODES: [Code; 4] = [Code::Compact, Code::Parted, Code::Dict, Code::Eli
 
 // Puts each code alone at the end of a list.
 fn push_alone(list: &mut Vec<Encoding>) -> Result<(), AllocFailed<Encoding>>
-    ensures { OnOk result (list.new.items ≡ list.old.items ++ map alone CODES) }
+    ensures { OnOk result (list.new.items ≡ list.old.items ++ map alone all_codes) }
 {
     for i in 0..CODES.len() {
         list.push(Encoding {
@@ -23,7 +23,7 @@ fn push_alone(list: &mut Vec<Encoding>) -> Result<(), AllocFailed<Encoding>>
 
 // Puts a front code with each back code at the end of a list.
 fn push_pairs(list: &mut Vec<Encoding>, front: Code) -> Result<(), AllocFailed<Encoding>>
-    ensures { OnOk result (list.new.items ≡ list.old.items ++ map (followed_by front) CODES) }
+    ensures { OnOk result (list.new.items ≡ list.old.items ++ map (followed_by front) all_codes) }
 {
     for i in 0..CODES.len() {
         list.push(Encoding {

@@ -1,7 +1,6 @@
 use Rattle.std.specs.Prelude.{◌≡◌, ◌++◌, map, take}
-use Rattle.demo_index.specs.Encodings.{alone}
-use Rattle.demo_index.specs.declared.codes.TheConstants.{CODES}
+use Rattle.demo_index.specs.Encodings.{all_codes, alone}
 use Rattle.demo_index.proofs.codes.push_alone.Given as goal
 
 abbrev pub invariant-loop-i : goal.invariant-loop-i
-invariant-loop-i l = l.list.items ≡ l.fn.list.items ++ map alone (take l.i CODES)
+invariant-loop-i l = l.list.items ≡ l.fn.list.items ++ map alone (take l.i all_codes)
