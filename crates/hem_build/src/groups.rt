@@ -125,7 +125,6 @@ fn build_group<R: Threads + Wait + Sync, G: Gate>(
 {
     let mut built = Vec::new(alloc);
     let mut scratch = Scratch::with(alloc, 0)?;
-    let mut records = Vec::new(alloc);
     for number in starts[group]..starts[group + 1] {
         match build_one(
             rt,
@@ -136,7 +135,6 @@ fn build_group<R: Threads + Wait + Sync, G: Gate>(
             settings,
             how,
             &mut scratch,
-            &mut records,
             gate,
         )? {
             Ok(part) => built.push(part)?,
@@ -150,7 +148,8 @@ fn build_group<R: Threads + Wait + Sync, G: Gate>(
     Ok(Ok(built))
 }
 
-// Builds a partition, whose records are gathered in memory that is lent where they stand in more than one piece.
+// Builds a partition, whose records are gathered where they stand in more than one piece. They are gathered anew for each, since an
+// allocator that has seen so much memory let go of at once doesn't give what a partition takes back to the system.
 fn build_one<R: Threads + Wait + Sync, G: Gate>(
     rt: &R,
     alloc: Global,
@@ -160,7 +159,6 @@ fn build_one<R: Threads + Wait + Sync, G: Gate>(
     settings: &Settings,
     how: How,
     scratch: &mut Scratch,
-    room: &mut Vec<Record>,
     gate: &G,
 ) -> Result<Result<Part, Stuck>, NoMemory>
     requires within { number < length partitions.now }
@@ -183,8 +181,8 @@ fn build_one<R: Threads + Wait + Sync, G: Gate>(
             gate,
         ),
         None => {
-            partitions.gather(number, room)?;
-            build_records(rt, alloc, room, seed, settings, how, scratch, gate)
+            let records = partitions.gather(alloc, number)?;
+            build_records(rt, alloc, &records, seed, settings, how, scratch, gate)
         }
     }
 }

@@ -52,14 +52,14 @@ impl Pieces {
         None
     }
 
-    // Puts the records of a partition together, in the order of the list.
-    pub(crate) fn gather(&self, number: u64, room: &mut Vec<Record>) -> Result<(), AllocError>
+    // The records of a partition together, in the order of the list.
+    pub(crate) fn gather(&self, alloc: Global, number: u64) -> Result<Vec<Record>, AllocError>
         requires { number < length self.now }
-        ensures { OnOk result (room.new.items ≡ slice_index_or self.now number []) }
+        ensures { IfOk result (λ records. records.items ≡ slice_index_or self.now number []) }
     {
-        room.clear();
-        room.reserve(count_among(&self.list, number))?;
-        gather_into(room, &self.list, number)
+        let mut records = Vec::with_capacity(alloc, count_among(&self.list, number))?;
+        gather_into(&mut records, &self.list, number)?;
+        Ok(records)
     }
 
     // How many records each partition has; the answer of a build doesn't depend on it.

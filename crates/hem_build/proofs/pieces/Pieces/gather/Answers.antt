@@ -1,5 +1,5 @@
 use Rattle.std.proofs.Common.{◌≡◌, ◌<◌, List, length, sym, ap, ◌∙◌, subst}
-use Rattle.std.specs.Prelude.{All, OnOk}
+use Rattle.std.specs.Prelude.{All}
 use Rattle.pthash.specs.declared.Record.{Record}
 use Rattle.hem_build.proofs.Gathering.{held_in_each, gathered_of}
 use Rattle.hem_build.specs.Gathering.{gathered}
@@ -17,7 +17,7 @@ gather_into-requires-clause-held c =
 
 pub returns : goal.returns
 returns c =
-    subst (λ (rs : List Record). OnOk c.gather_into.result (c.gather_into.new.room.items ≡ rs))
+    subst (λ (rs : List Record). c.gather_into.new.room.items ≡ rs)
     (ap (λ (ps : List (List (List Record))). gathered ps c.args.number) c.deref-2.ensures.value
     ∙ gathered_of c.self.inside.list.items c.self.inside.parts c.args.number c.args.self.now c.self.view_is c.requires)
-    c.gather_into.ensures
+    c.in_ok-gather_into.ensures
