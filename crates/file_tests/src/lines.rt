@@ -1,11 +1,17 @@
 // Lines read one by one.
 use pth_outside::{Line, LineErr, LineReader, MemFiles};
+use std::alloc::{AllocError, Global};
 use std::test::Fail;
+
+// As many letters.
+fn letters(alloc: Global, len: usize) -> Result<Vec<u8>, AllocError> {
+    vec![in alloc; b'x'; len]
+}
 
 #[test]
 fn a_line_that_is_too_long_stays_so(rt: HostRuntime) -> Result<(), Fail> {
     let alloc = rt.alloc();
-    let text = vec![in alloc; b'x'; 65536]?;
+    let text = letters(alloc, 65536)?;
     let mut files = MemFiles::new(alloc, Vec::new(alloc), 40000);
     files.put("f", text.as_slice()).ok().ok_or("memory")?;
     let mut reader = LineReader::new(alloc, "f").ok().ok_or("memory")?;
